@@ -1,0 +1,80 @@
+-- Laws of the days layer's definitions: how a search and a count go on by a day, and what the layers above rely on. Assumes nothing.
+use Prim.Native.Nat.{ℕ, zero, suc, _+_, _-_, _<_, _≤_}
+use mathlib.Core.Path.{_≡_, refl, sym, ap, _∙_}
+use mathlib.Core.Logic.{_⊎_, inl, inr, ⊎-elim}
+use mathlib.Core.List.{List}
+use mathlib.Core.Bool.{Bool, true, false, cond}
+use native.Mathlib.Numerals.{add-one}
+use native.Mathlib.Omega.{arith}
+use lib.Dec.{eqb}
+use borrow.Author.Tests.{le-leb, eqb-true, eqb-false}
+use Rattle.days.specs.Days.{lastDay, noDay, kindOfDay, isBusinessDay, startsSwitches, firstStart, switchDate}
+use Rattle.days.specs.Window.{countFrom, businessDays, inWindow}
+use Rattle.days.specs.Laws.{NoneBefore, FirstStart, NoStart, SwitchDateIs, PastInWindow}
+
+-- the search from a day on
+module _ (calendar : List ℕ) (day : ℕ) where
+  pub switch-end : lastDay < day → switchDate calendar day ≡ noDay
+  unfolding switchDate
+  switch-end h =
+      let e : suc lastDay - day ≡ 0 = omega arith in
+      rw e
+
+  switch-step : day ≤ lastDay → switchDate calendar day ≡ cond (startsSwitches calendar day) day (switchDate calendar (day + 1))
+  unfolding switchDate
+  switch-step h =
+      let e : suc lastDay - day ≡ suc (suc lastDay - (day + 1)) = omega arith in
+      rw (e, add-one day)
+
+  pub switch-here : day ≤ lastDay → startsSwitches calendar day ≡ true → switchDate calendar day ≡ day
+  switch-here h e = switch-step h ∙ ap (λ (b : Bool). cond b day (switchDate calendar (day + 1))) e
+
+  pub switch-next : day ≤ lastDay → startsSwitches calendar day ≡ false → switchDate calendar day ≡ switchDate calendar (day + 1)
+  switch-next h e = switch-step h ∙ ap (λ (b : Bool). cond b day (switchDate calendar (day + 1))) e
+
+-- the count from a day up to another
+module _ (calendar : List ℕ) (day to : ℕ) where
+  pub count-end : to ≤ day → businessDays calendar day to ≡ 0
+  unfolding businessDays
+  count-end h =
+      let e : to - day ≡ 0 = omega arith in
+      rw e
+
+  count-step : day < to → businessDays calendar day to ≡ cond (isBusinessDay calendar day) 1 0 + businessDays calendar (day + 1) to
+  unfolding businessDays
+  count-step h =
+      let e : to - day ≡ suc (to - (day + 1)) = omega arith in
+      rw (e, add-one day)
+
+  pub count-here : day < to → isBusinessDay calendar day ≡ true → businessDays calendar day to ≡ 1 + businessDays calendar (day + 1) to
+  count-here h e = omega (arith, count-step h, ap {B = ℕ} (λ (b : Bool). cond b 1 0) e)
+
+  pub count-next : day < to → isBusinessDay calendar day ≡ false → businessDays calendar day to ≡ businessDays calendar (day + 1) to
+  count-next h e = omega (arith, count-step h, ap {B = ℕ} (λ (b : Bool). cond b 1 0) e)
+
+-- no switches start on a day, nor on those after it
+none-more : (calendar : List ℕ) (from to : ℕ) → startsSwitches calendar from ≡ false → NoneBefore calendar (suc from) to → NoneBefore calendar from to
+none-more calendar from to e none day h k = go (eqb day from) refl
+  where
+    go : (b : Bool) → eqb day from ≡ b → startsSwitches calendar day ≡ false
+    go true q = ap (startsSwitches calendar) (eqb-true day from q) ∙ e
+    go false q = none day (omega (arith, eqb-false day from q)) k
+
+first-start : (calendar : List ℕ) (many day : ℕ) → many ≡ suc lastDay - day → FirstStart calendar day (firstStart calendar many day) ⊎ NoStart calendar day (firstStart calendar many day)
+first-start calendar zero day h = inr (record { missing = refl; none = λ d k l. absurd (omega arith) })
+first-start calendar (suc many) day h = go (startsSwitches calendar day) refl (first-start calendar many (suc day) (omega arith))
+  where
+    go : (b : Bool) → startsSwitches calendar day ≡ b
+        → FirstStart calendar (suc day) (firstStart calendar many (suc day)) ⊎ NoStart calendar (suc day) (firstStart calendar many (suc day))
+        → FirstStart calendar day (cond b day (firstStart calendar many (suc day))) ⊎ NoStart calendar day (cond b day (firstStart calendar many (suc day)))
+    go true e ih = inl (record { from = omega arith; day = omega arith; starts = e; none = λ d k l. absurd (omega arith) })
+    go false e (inl f) = inl (record { from = omega (arith, f .from); day = f .day; starts = f .starts; none = none-more calendar day _ e (f .none) })
+    go false e (inr n) = inr (record { missing = n .missing; none = none-more calendar day noDay e (n .none) })
+
+pub switch-date-is : SwitchDateIs
+unfolding switchDate
+switch-date-is calendar today = first-start calendar (suc lastDay - today) today refl
+
+pub past-in-window : PastInWindow
+unfolding inWindow
+past-in-window calendar width today scheduled h k = simp (le-leb scheduled lastDay h, count-end calendar today scheduled k, le-leb 0 width (omega arith))

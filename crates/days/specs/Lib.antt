@@ -1,0 +1,4 @@
+pub mod Days
+pub mod Window
+pub mod Laws
+pub mod Pieces

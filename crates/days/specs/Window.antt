@@ -1,0 +1,23 @@
+-- Document 01, "Evaluation", its first line: the window.
+use Prim.Native.Nat.{ℕ, zero, suc, _+_, _-_}
+use mathlib.Core.List.{List}
+use mathlib.Core.Bool.{Bool, true, false, cond, _&&_}
+use lib.Dec.{leb}
+use Rattle.days.specs.Days.{isBusinessDay, isDay}
+
+-- the business days among so many days, counted from one on
+abbrev pub countFrom : List ℕ → ℕ → ℕ → ℕ
+countFrom calendar zero day = 0
+countFrom calendar (suc many) day = cond (isBusinessDay calendar day) 1 0 + countFrom calendar many (suc day)
+
+-- how many business days d have from ≤ d < to
+unfoldable pub businessDays : List ℕ → ℕ → ℕ → ℕ
+businessDays calendar from to = countFrom calendar (to - from) from
+
+-- Two business days: the width that document 01 has throughout.
+abbrev pub windowWidth : ℕ
+windowWidth = 2
+
+-- In window: the scheduled day is a day, and at most width business days d have today ≤ d < scheduled.
+unfoldable pub inWindow : List ℕ → ℕ → ℕ → ℕ → Bool
+inWindow calendar width today scheduled = isDay scheduled && leb (businessDays calendar today scheduled) width

@@ -1,0 +1,59 @@
+//! The answer to a record: the rows of document 01's table, by name.
+
+/// 0 for a record that is taken, else the number of the first row it meets.
+#[derive(Clone, Copy, Debug, PartialEq, Eq)]
+#[repr(u8)]
+pub enum Answer {
+    Accepted = 0,
+    /// The notice buffer is under 24,576 bytes.
+    BufferTooShort = 1,
+    BookNotWellKept = 2,
+    /// Length, kind, detail or a field out of range, or an unused field not zero.
+    Malformed = 3,
+    NoSuchPremise = 4,
+    PremiseHeld = 5,
+    /// 64 files are held.
+    BookFull = 6,
+    /// A premise with an open order is not retired.
+    OpenOrderHeld = 7,
+    /// The new order's reference is held in the file.
+    ReferenceHeld = 8,
+    /// The requested day is too far ahead of today or too far back.
+    RequestedDayTooFar = 9,
+    NoSwitchDate = 10,
+    NotFirstIn = 11,
+    /// All 8 places are taken by open orders.
+    EightOpenOrders = 12,
+    /// No such reference, or on a cancel another retailer's.
+    NoSuchOrder = 13,
+    /// The order's status or kind does not take this record.
+    NotTaken = 14,
+    NotTheNextDay = 15,
+}
+
+impl Answer {
+    /// Every answer, in the order of its number.
+    pub const ALL: [Answer; 16] = [
+        Answer::Accepted,
+        Answer::BufferTooShort,
+        Answer::BookNotWellKept,
+        Answer::Malformed,
+        Answer::NoSuchPremise,
+        Answer::PremiseHeld,
+        Answer::BookFull,
+        Answer::OpenOrderHeld,
+        Answer::ReferenceHeld,
+        Answer::RequestedDayTooFar,
+        Answer::NoSwitchDate,
+        Answer::NotFirstIn,
+        Answer::EightOpenOrders,
+        Answer::NoSuchOrder,
+        Answer::NotTaken,
+        Answer::NotTheNextDay,
+    ];
+
+    /// The document's number.
+    pub fn number(self) -> u8 {
+        self as u8
+    }
+}

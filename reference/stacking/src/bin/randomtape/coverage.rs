@@ -1,0 +1,343 @@
+//! What tapes cover: answers, kinds of record, notices, the branches of the
+//! clock, the passes of the evaluation, the cells of table 11.1.
+//!
+//! The steps of each accepted record are done once more on a copy of the file,
+//! one by one, to see which of them acted.
+
+use stacking::answer::Answer;
+use stacking::book::{record_call, Book};
+use stacking::clock::{self, LONGEST_WAIT, REVIEW_WAIT};
+use stacking::days::{is_business_day, switch_date, Window, WINDOW};
+use stacking::evaluation::{self, Candidates};
+use stacking::file::File;
+use stacking::first_in;
+use stacking::notice::{NoticeWriter, NOTICE_BUFFER_BYTES};
+use stacking::order::{kind, status, Order};
+use stacking::premise;
+use stacking::record::{decode, Entry, Event, NewOrder, OrderEntry, Record, RECORD_BYTES};
+use std::collections::HashSet;
+use std::io::{self, Write};
+
+/// The branches of the clock.
+const BRANCHES: [&str; 12] = [
+    "In Review, no business day, waits on",
+    "In Review, business day, waits on",
+    "In Review, N held at 21",
+    "In Review, ends by 20 before the requested day",
+    "In Review, ends by 3 or more when due",
+    "Permit Pending, no business day, waits on",
+    "Permit Pending, business day before the requested day, waits on",
+    "Permit Pending, business day, waits on",
+    "Permit Pending, ends by 21",
+    "Cancel Pending, waits on",
+    "Cancel Pending, ends by 7",
+    "another status, stays",
+];
+
+const PASSES: [&str; 4] = [
+    "1 switches of one day",
+    "2 drops beside switches",
+    "3 overtaken permits",
+    "4 telling the retailer",
+];
+
+const KINDS: [&str; 11] = [
+    "malformed or short",
+    "1 create",
+    "2 retire",
+    "3 new order",
+    "4 scheduled",
+    "5 permit required",
+    "6 unexecutable",
+    "7 meter read",
+    "8 cancel",
+    "9 cancel reply",
+    "10 day mark",
+];
+
+/// A pass of the evaluation.
+type Pass = fn(&mut File, &Window, &Candidates, &mut NoticeWriter);
+
+const PASS_STEPS: [Pass; 4] = [
+    evaluation::keep_one_switch_a_day,
+    evaluation::cancel_drops_beside_switches,
+    evaluation::cancel_overtaken_permits,
+    evaluation::tell_losing_retailer,
+];
+
+/// How often each thing was met.
+#[derive(Default)]
+pub struct Coverage {
+    tapes: u64,
+    answers: [u64; 16],
+    /// By kind of record: refused, accepted.
+    kinds: [[u64; 2]; 11],
+    codes: [u64; 8],
+    branches: [u64; BRANCHES.len()],
+    /// By pass: did not act, acted.
+    passes: [[u64; 2]; 4],
+    /// By held and new kind, a Scheduled order on the new order's day.
+    cells: [[u64; 4]; 5],
+    /// A Scheduled standard switch after the day of a new one.
+    later_standard_switch: u64,
+    /// An order dropped to make room.
+    dropped: u64,
+    /// Reads on a day before the retailer's since.
+    late_reads: u64,
+    /// A premise created that had been retired.
+    created_again: u64,
+}
+
+impl Coverage {
+    /// Plays a tape and counts what it meets.
+    pub fn play(&mut self, calendar: &[u8], tape: &[u8]) {
+        let mut book = Book::fresh(0);
+        let mut buffer = vec![0; NOTICE_BUFFER_BYTES];
+        let mut retired = HashSet::new();
+        self.tapes += 1;
+        for record in tape.chunks(RECORD_BYTES) {
+            let before = book.clone();
+            let (answer, count) = record_call(&mut book, calendar, record, &mut buffer);
+            self.count_call(record, answer, &buffer[..count * RECORD_BYTES]);
+            let Some(record) = decode(record) else {
+                continue;
+            };
+            self.count_table(&before, calendar, &record, answer);
+            if answer == Answer::Accepted {
+                self.count_steps(&before, calendar, &record);
+                self.count_created_again(&record, &mut retired);
+            }
+        }
+    }
+
+    fn count_call(&mut self, record: &[u8], answer: Answer, notices: &[u8]) {
+        let kind = match decode(record) {
+            None => 0,
+            Some(_) => usize::from(record[0]),
+        };
+        self.answers[usize::from(answer.number())] += 1;
+        self.kinds[kind][usize::from(answer == Answer::Accepted)] += 1;
+        for notice in notices.chunks_exact(RECORD_BYTES) {
+            self.codes[usize::from(notice[0]) - 1] += 1;
+        }
+    }
+
+    fn count_created_again(&mut self, record: &Record, retired: &mut HashSet<u64>) {
+        if let Record::OfPremise { premise, entry } = *record {
+            match entry {
+                Entry::Retire => {
+                    retired.insert(premise);
+                }
+                Entry::Create { .. } => self.created_again += u64::from(retired.contains(&premise)),
+                _ => {}
+            }
+        }
+    }
+
+    /// The cells of table 11.1 that a new order meets, if it comes to row 11.
+    fn count_table(&mut self, before: &Book, calendar: &[u8], record: &Record, answer: Answer) {
+        let comes_to_row_11 = matches!(
+            answer,
+            Answer::Accepted | Answer::NotFirstIn | Answer::EightOpenOrders
+        );
+        let Record::OfPremise { premise, entry } = *record else {
+            return;
+        };
+        let (Entry::Order(OrderEntry::New(new)), true) = (entry, comes_to_row_11) else {
+            return;
+        };
+        let day = requested_day(&new, calendar, before.today);
+        for order in file_of(before, premise).held() {
+            if order.is_scheduled() && new.kind != kind::MASS_TRANSITION_DROP {
+                self.count_cell(order, new.kind, day);
+            }
+        }
+    }
+
+    fn count_cell(&mut self, order: &Order, new_kind: u8, day: u16) {
+        if order.scheduled_day == day {
+            self.cells[usize::from(order.kind) - 1][usize::from(new_kind) - 1] += 1;
+        } else if order.kind == kind::STANDARD_SWITCH
+            && new_kind == kind::STANDARD_SWITCH
+            && order.scheduled_day > day
+        {
+            self.later_standard_switch += 1;
+        }
+    }
+
+    /// Does the steps of an accepted record once more, on copies.
+    fn count_steps(&mut self, before: &Book, calendar: &[u8], record: &Record) {
+        match *record {
+            Record::DayMark { day } => {
+                let window = Window::new(calendar, day, WINDOW);
+                for &file in before.held() {
+                    let after_clock = self.count_clock(file, calendar, day);
+                    self.count_passes(after_clock, &window);
+                }
+            }
+            Record::OfPremise { entry, premise } => {
+                if let Entry::Order(entry) = entry {
+                    let file = file_of(before, premise);
+                    let after = self.count_record(file, calendar, before.today, entry);
+                    self.count_passes(after, &Window::new(calendar, before.today, WINDOW));
+                }
+            }
+        }
+    }
+
+    fn count_record(
+        &mut self,
+        before: &File,
+        calendar: &[u8],
+        today: u16,
+        entry: OrderEntry,
+    ) -> File {
+        let mut file = *before;
+        let taken =
+            with_writer(|notices| premise::order_step(&mut file, calendar, today, entry, notices));
+        assert_eq!(taken, Ok(()), "the record was accepted");
+        let is_new = matches!(entry, OrderEntry::New(_));
+        self.dropped += u64::from(is_new && before.order_count == file.order_count);
+        self.late_reads += u64::from(is_late_read(before, entry));
+        file
+    }
+
+    fn count_clock(&mut self, mut file: File, calendar: &[u8], today: u16) -> File {
+        let before = file;
+        with_writer(|notices| clock::run(&mut file, calendar, today, notices));
+        let business_day = is_business_day(calendar, today);
+        for (old, new) in before.held().iter().zip(file.held()) {
+            self.branches[branch(old, new, today, business_day)] += 1;
+        }
+        file
+    }
+
+    fn count_passes(&mut self, mut file: File, window: &Window) {
+        let candidates = Candidates::of(&file, window);
+        for (counts, pass) in self.passes.iter_mut().zip(PASS_STEPS) {
+            let before = file;
+            with_writer(|notices| pass(&mut file, window, &candidates, notices));
+            counts[usize::from(file != before)] += 1;
+        }
+    }
+
+    /// Every count with its name, in the paper's order.
+    fn lines(&self) -> Vec<(String, u64)> {
+        let mut lines = Vec::new();
+        for (number, &count) in self.answers.iter().enumerate() {
+            // no tape gets 1 or 2
+            if number != 1 && number != 2 {
+                lines.push((format!("answer {number}"), count));
+            }
+        }
+        for (name, [refused, accepted]) in KINDS.iter().zip(self.kinds) {
+            lines.push((format!("record {name}, refused"), refused));
+            if *name != KINDS[0] {
+                lines.push((format!("record {name}, accepted"), accepted));
+            }
+        }
+        for (place, &count) in self.codes.iter().enumerate() {
+            lines.push((format!("notice {}", place + 1), count));
+        }
+        for (name, &count) in BRANCHES.iter().zip(&self.branches) {
+            lines.push((format!("clock: {name}"), count));
+        }
+        for (name, [idle, acted]) in PASSES.iter().zip(self.passes) {
+            lines.push((format!("pass {name}, acted"), acted));
+            lines.push((format!("pass {name}, did not act"), idle));
+        }
+        self.push_table(&mut lines);
+        lines.push(("oldest closed order dropped".into(), self.dropped));
+        lines.push(("read before since".into(), self.late_reads));
+        lines.push(("retired premise created again".into(), self.created_again));
+        lines
+    }
+
+    fn push_table(&self, lines: &mut Vec<(String, u64)>) {
+        for (held, row) in self.cells.iter().enumerate() {
+            for (new, &count) in row.iter().enumerate() {
+                let letter = match first_in::TABLE[held][new] {
+                    true => "Y",
+                    false => "N",
+                };
+                let (held, new) = (held + 1, new + 1);
+                lines.push((
+                    format!("table 11.1, Scheduled {held}, new {new}: {letter}"),
+                    count,
+                ));
+            }
+        }
+        lines.push((
+            "Scheduled 3 after the day of a new 3".into(),
+            self.later_standard_switch,
+        ));
+    }
+
+    /// Prints the counts, and what a tape can meet and none did.
+    pub fn write(&self, out: &mut dyn Write) -> io::Result<()> {
+        let lines = self.lines();
+        writeln!(out, "{:>10} tapes", self.tapes)?;
+        for (name, count) in &lines {
+            writeln!(out, "{count:>10} {name}")?;
+        }
+        let missed: Vec<&str> = lines
+            .iter()
+            .filter(|(_, count)| *count == 0)
+            .map(|(name, _)| name.as_str())
+            .collect();
+        match missed.as_slice() {
+            [] => writeln!(out, "not met: nothing"),
+            names => writeln!(out, "not met: {}", names.join("; ")),
+        }
+    }
+}
+
+fn with_writer<T>(step: impl FnOnce(&mut NoticeWriter) -> T) -> T {
+    let mut room = [0; 16 * RECORD_BYTES];
+    step(&mut NoticeWriter::new(&mut room))
+}
+
+fn file_of(book: &Book, premise: u64) -> &File {
+    let file = book.held().iter().find(|file| file.premise == premise);
+    file.expect("the record came past row 4")
+}
+
+/// A read of a Scheduled order, on a day before the retailer's since?
+fn is_late_read(file: &File, entry: OrderEntry) -> bool {
+    let OrderEntry::Event { reference, event } = entry else {
+        return false;
+    };
+    let order = file
+        .held()
+        .iter()
+        .find(|order| order.reference == reference);
+    matches!(event, Event::MeterRead { day } if day < file.since)
+        && order.is_some_and(Order::is_scheduled)
+}
+
+fn requested_day(new: &NewOrder, calendar: &[u8], today: u16) -> u16 {
+    match new.kind {
+        kind::STANDARD_SWITCH => switch_date(calendar, today).expect("the record came past row 10"),
+        _ => new.day,
+    }
+}
+
+/// The place in [`BRANCHES`] of what the clock did to an order.
+fn branch(before: &Order, after: &Order, today: u16, business_day: bool) -> usize {
+    let ended = before.status != after.status;
+    let due = today >= before.requested_day;
+    match (before.status, ended) {
+        (status::IN_REVIEW, _) if before.waited == LONGEST_WAIT && business_day => 2,
+        (status::IN_REVIEW, false) => usize::from(business_day),
+        (status::IN_REVIEW, true) if !due && after.waited >= REVIEW_WAIT => 3,
+        (status::IN_REVIEW, true) => 4,
+        (status::PERMIT_PENDING, true) => 8,
+        (status::PERMIT_PENDING, false) => match (business_day, due) {
+            (false, _) => 5,
+            (true, false) => 6,
+            (true, true) => 7,
+        },
+        (status::CANCEL_PENDING, ended) => 9 + usize::from(ended),
+        _ => 11,
+    }
+}

@@ -1,0 +1,156 @@
+//! The book: today and up to 64 files, and the record call.
+
+use crate::answer::Answer;
+use crate::days::{Window, LAST_DAY, WINDOW};
+use crate::file::File;
+use crate::notice::{NoticeWriter, NOTICE_BUFFER_BYTES};
+use crate::premise;
+use crate::record::{decode, Entry, Record};
+use crate::well_kept::is_well_kept;
+
+/// A book holds up to this many files.
+pub const FILES_A_BOOK: usize = 64;
+
+/// The book. Any number fits in any field; see [`is_well_kept`].
+#[derive(Clone, Debug, PartialEq, Eq)]
+pub struct Book {
+    /// T, today.
+    pub today: u16,
+    /// How many of the places of `files` are used.
+    pub file_count: u8,
+    /// The files, in rising premise number; unused places are zero.
+    pub files: [File; FILES_A_BOOK],
+}
+
+impl Book {
+    /// A fresh book. A start day above 4,095 starts at 4,095.
+    pub fn fresh(start_day: u16) -> Book {
+        Book {
+            today: start_day.min(LAST_DAY),
+            file_count: 0,
+            files: [File::EMPTY; FILES_A_BOOK],
+        }
+    }
+
+    /// The held files, in rising premise number. The count has to be in range.
+    pub fn held(&self) -> &[File] {
+        &self.files[..usize::from(self.file_count)]
+    }
+
+    /// The place of a premise's file, or the place where it would go.
+    fn place_of(&self, premise: u64) -> Result<usize, usize> {
+        self.held()
+            .binary_search_by_key(&premise, |file| file.premise)
+    }
+
+    /// Row 6, and then the file takes its place among the others.
+    fn insert(&mut self, place: usize, file: File) -> Result<(), Answer> {
+        let count = usize::from(self.file_count);
+        if count == FILES_A_BOOK {
+            return Err(Answer::BookFull);
+        }
+        self.files.copy_within(place..count, place + 1);
+        self.files[place] = file;
+        self.file_count += 1;
+        Ok(())
+    }
+
+    /// The file leaves the book and frees its place.
+    fn remove(&mut self, place: usize) {
+        let count = usize::from(self.file_count);
+        self.files.copy_within(place + 1..count, place);
+        self.files[count - 1] = File::EMPTY;
+        self.file_count -= 1;
+    }
+}
+
+/// The record call: the answer, and how many notices stand in the buffer. A
+/// refusal leaves the book and the buffer as they were; otherwise the first 24
+/// bytes times the count are the notices, and the bytes after them stay.
+pub fn record_call(
+    book: &mut Book,
+    calendar: &[u8],
+    record: &[u8],
+    notices: &mut [u8],
+) -> (Answer, usize) {
+    if notices.len() < NOTICE_BUFFER_BYTES {
+        return (Answer::BufferTooShort, 0);
+    }
+    if !is_well_kept(book) {
+        return (Answer::BookNotWellKept, 0);
+    }
+    play(book, calendar, record, notices)
+}
+
+/// The record call without row 2's test, to measure what that test costs. The
+/// book has to be well kept: it panics or goes astray on one that is not.
+pub fn record_call_untested(
+    book: &mut Book,
+    calendar: &[u8],
+    record: &[u8],
+    notices: &mut [u8],
+) -> (Answer, usize) {
+    if notices.len() < NOTICE_BUFFER_BYTES {
+        return (Answer::BufferTooShort, 0);
+    }
+    play(book, calendar, record, notices)
+}
+
+/// Rows 3 to 15 and the steps.
+fn play(book: &mut Book, calendar: &[u8], record: &[u8], notices: &mut [u8]) -> (Answer, usize) {
+    let mut notices = NoticeWriter::new(notices);
+    let result = match decode(record) {
+        None => Err(Answer::Malformed),
+        Some(Record::DayMark { day }) => day_mark(book, calendar, day, &mut notices),
+        Some(Record::OfPremise { premise, entry }) => {
+            premise_record(book, calendar, premise, entry, &mut notices)
+        }
+    };
+    match result {
+        Ok(()) => (Answer::Accepted, notices.count()),
+        Err(row) => (row, 0),
+    }
+}
+
+/// Record kinds 1 to 9.
+fn premise_record(
+    book: &mut Book,
+    calendar: &[u8],
+    premise: u64,
+    entry: Entry,
+    notices: &mut NoticeWriter,
+) -> Result<(), Answer> {
+    match (entry, book.place_of(premise)) {
+        (Entry::Create { .. }, Ok(_)) => Err(Answer::PremiseHeld),
+        (Entry::Create { since, retailer }, Err(place)) => {
+            book.insert(place, File::new(premise, retailer, since))
+        }
+        (_, Err(_)) => Err(Answer::NoSuchPremise),
+        (Entry::Retire, Ok(place)) => {
+            premise::may_retire(&book.files[place])?;
+            book.remove(place);
+            Ok(())
+        }
+        (Entry::Order(entry), Ok(place)) => {
+            let file = &mut book.files[place];
+            premise::order_record(file, calendar, book.today, entry, notices)
+        }
+    }
+}
+
+/// Record kind 10: today becomes the day, then each file in rising premise
+/// number. The window is looked for once, for all of them.
+fn day_mark(
+    book: &mut Book,
+    calendar: &[u8],
+    day: u16,
+    notices: &mut NoticeWriter,
+) -> Result<(), Answer> {
+    premise::is_next_day(book.today, day)?;
+    book.today = day;
+    let window = Window::new(calendar, day, WINDOW);
+    for file in &mut book.files[..usize::from(book.file_count)] {
+        premise::day_mark(file, calendar, &window, notices);
+    }
+    Ok(())
+}

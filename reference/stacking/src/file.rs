@@ -1,0 +1,94 @@
+//! The file of one premise.
+
+use crate::order::Order;
+
+/// A file holds up to this many orders.
+pub const ORDERS_A_FILE: usize = 8;
+
+/// R of a premise without a retailer.
+pub const DE_ENERGIZED: u32 = 0;
+
+/// One premise. Like [`Order`], any number fits in any field.
+#[derive(Clone, Copy, Debug, Default, PartialEq, Eq)]
+pub struct File {
+    /// P, the premise number; not 0.
+    pub premise: u64,
+    /// R, the premise's retailer; 0 means de-energized.
+    pub retailer: u32,
+    /// S, the day since which the retailer holds.
+    pub since: u16,
+    /// How many of the places of `orders` are used.
+    pub order_count: u8,
+    /// The orders, oldest first; unused places are zero.
+    pub orders: [Order; ORDERS_A_FILE],
+}
+
+impl File {
+    /// A place without a file.
+    pub const EMPTY: File = File {
+        premise: 0,
+        retailer: 0,
+        since: 0,
+        order_count: 0,
+        orders: [Order::EMPTY; ORDERS_A_FILE],
+    };
+
+    /// The file that a create makes.
+    pub fn new(premise: u64, retailer: u32, since: u16) -> File {
+        File {
+            premise,
+            retailer,
+            since,
+            ..File::EMPTY
+        }
+    }
+
+    /// Is every field 0, those of all orders too?
+    pub fn is_empty(&self) -> bool {
+        let own = self.premise | u64::from(self.retailer) | u64::from(self.since);
+        (own | u64::from(self.order_count) == 0)
+            & self
+                .orders
+                .iter()
+                .fold(true, |so_far, order| so_far & order.is_empty())
+    }
+
+    /// The held orders, oldest first. The count has to be in range.
+    pub fn held(&self) -> &[Order] {
+        &self.orders[..usize::from(self.order_count)]
+    }
+
+    /// The held orders, to be changed.
+    pub fn held_mut(&mut self) -> &mut [Order] {
+        &mut self.orders[..usize::from(self.order_count)]
+    }
+
+    /// The place of the order with this reference, closed ones included.
+    pub fn place_of(&self, reference: u32) -> Option<usize> {
+        self.held()
+            .iter()
+            .position(|order| order.reference == reference)
+    }
+
+    pub fn has_open_order(&self) -> bool {
+        self.held().iter().any(Order::is_open)
+    }
+
+    /// Do open orders take all places, so that none can be dropped?
+    pub fn is_full_of_open_orders(&self) -> bool {
+        self.held().len() == ORDERS_A_FILE && self.orders.iter().all(Order::is_open)
+    }
+
+    /// Puts a new order behind the others. If 8 are held, the oldest closed one
+    /// is dropped; the caller has made sure that there is one.
+    pub fn append(&mut self, order: Order) {
+        let count = usize::from(self.order_count);
+        if count < ORDERS_A_FILE {
+            self.orders[count] = order;
+            self.order_count += 1;
+        } else if let Some(closed) = self.orders.iter().position(|held| !held.is_open()) {
+            self.orders.copy_within(closed + 1.., closed);
+            self.orders[ORDERS_A_FILE - 1] = order;
+        }
+    }
+}

@@ -1,0 +1,27 @@
+//! The stacking book: who supplies which flat in the Texas retail electricity
+//! market, kept from one tape of 24-byte records for many premises.
+//!
+//! This is the second program. It is written from document 01 alone and is
+//! what the proved program is tested and measured against. Three layers, each
+//! using only the one below: days ([`days`]), one premise ([`premise`] and what
+//! it is made of), the book ([`book`]).
+
+#![forbid(unsafe_code)]
+
+pub mod answer;
+pub mod book;
+pub mod clock;
+pub mod days;
+pub mod evaluation;
+pub mod file;
+pub mod first_in;
+pub mod notice;
+pub mod order;
+pub mod premise;
+pub mod program;
+pub mod random;
+pub mod record;
+pub mod rules;
+pub mod sample;
+pub mod tape;
+pub mod well_kept;

@@ -1,0 +1,109 @@
+//! What the programs share: arguments in, text out, and how they end.
+
+use std::io::{self, BufWriter, Read, Write};
+use std::process::ExitCode;
+
+/// The arguments of a program, taken one by one by their names.
+pub struct Arguments {
+    left: Vec<String>,
+}
+
+impl Arguments {
+    /// The arguments after the program's name. One that is no text is shown
+    /// with its odd bytes replaced, and no program takes such a one.
+    pub fn of_program() -> Arguments {
+        Arguments {
+            left: std::env::args_os()
+                .skip(1)
+                .map(|argument| argument.to_string_lossy().into_owned())
+                .collect(),
+        }
+    }
+
+    /// Takes `name`, if it is there.
+    pub fn flag(&mut self, name: &str) -> bool {
+        match self.left.iter().position(|argument| argument == name) {
+            None => false,
+            Some(place) => {
+                self.left.remove(place);
+                true
+            }
+        }
+    }
+
+    /// Takes `name` with the value after it, if it is there.
+    pub fn value(&mut self, name: &str) -> Result<Option<String>, String> {
+        let Some(place) = self.left.iter().position(|argument| argument == name) else {
+            return Ok(None);
+        };
+        if place + 1 == self.left.len() {
+            return Err(format!("{name} needs a value after it (see --help)"));
+        }
+        self.left.remove(place);
+        Ok(Some(self.left.remove(place)))
+    }
+
+    /// Takes `name` with the number after it, if it is there.
+    pub fn number(&mut self, name: &str) -> Result<Option<u64>, String> {
+        self.value(name)?
+            .map(|text| parse_number(name, &text))
+            .transpose()
+    }
+
+    /// Takes the next argument, which has no name, as a number.
+    pub fn next_number(&mut self, what: &str) -> Result<u64, String> {
+        if self.left.is_empty() {
+            return Err(format!("{what} is missing (see --help)"));
+        }
+        parse_number(what, &self.left.remove(0))
+    }
+
+    /// All must have been taken by now.
+    pub fn end(self) -> Result<(), String> {
+        match self.left.first() {
+            None => Ok(()),
+            Some(other) => Err(format!(
+                "it does not know the argument {other:?} (see --help)"
+            )),
+        }
+    }
+}
+
+fn parse_number(what: &str, text: &str) -> Result<u64, String> {
+    text.parse()
+        .map_err(|_| format!("{what} takes a number from 0 on, not {text:?} (see --help)"))
+}
+
+/// How a program ends: on an error with a message and a status that says so.
+pub fn finish(name: &str, result: Result<(), String>) -> ExitCode {
+    match result {
+        Ok(()) => ExitCode::SUCCESS,
+        Err(message) => {
+            eprintln!("{name}: {message}");
+            ExitCode::FAILURE
+        }
+    }
+}
+
+/// The first bytes of a source, however many pieces they come in.
+pub fn read_up_to(source: impl Read, limit: usize) -> io::Result<Vec<u8>> {
+    let mut bytes = Vec::new();
+    source.take(limit as u64).read_to_end(&mut bytes)?;
+    Ok(bytes)
+}
+
+/// Writes to standard output, buffered; a failed write is an error.
+pub fn write_out(write: impl FnOnce(&mut dyn Write) -> io::Result<()>) -> Result<(), String> {
+    let mut out = BufWriter::new(io::stdout().lock());
+    write(&mut out).and_then(|()| out.flush()).map_err(|error| {
+        format!(
+            "cannot write to standard output: {error}; \
+             what was written is incomplete, so run it again"
+        )
+    })
+}
+
+/// Prints a text.
+pub fn print(text: &str) -> Result<(), String> {
+    write_out(|out| out.write_all(text.as_bytes()))
+}

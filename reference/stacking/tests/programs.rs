@@ -1,0 +1,217 @@
+//! The programs beside the tape program, run as programs.
+
+use stacking::record::{decode, RECORD_BYTES};
+use stacking::tape::play;
+use std::io::Write;
+use std::path::PathBuf;
+use std::process::{Command, Output, Stdio};
+
+const RANDOMTAPE: &str = env!("CARGO_BIN_EXE_randomtape");
+const CALLCHECK: &str = env!("CARGO_BIN_EXE_callcheck");
+const BENCH: &str = env!("CARGO_BIN_EXE_bench");
+
+/// Runs a program with its arguments in one line.
+fn run(program: &str, arguments: &str, input: &[u8]) -> Output {
+    let mut child = Command::new(program)
+        .args(arguments.split_whitespace())
+        .stdin(Stdio::piped())
+        .stdout(Stdio::piped())
+        .stderr(Stdio::piped())
+        .spawn()
+        .unwrap();
+    let mut stdin = child.stdin.take().unwrap();
+    let input = input.to_vec();
+    // a program that does not read its input closes the pipe
+    let writer = std::thread::spawn(move || drop(stdin.write_all(&input)));
+    let output = child.wait_with_output().unwrap();
+    writer.join().unwrap();
+    output
+}
+
+/// What a run that succeeds prints.
+fn output(program: &str, arguments: &str, input: &[u8]) -> Vec<u8> {
+    let output = run(program, arguments, input);
+    let message = String::from_utf8_lossy(&output.stderr).into_owned();
+    assert!(output.status.success() && message.is_empty(), "{message}");
+    output.stdout
+}
+
+fn text(program: &str, arguments: &str, input: &[u8]) -> String {
+    String::from_utf8(output(program, arguments, input)).unwrap()
+}
+
+/// A folder of its own for a test.
+fn folder(name: &str) -> PathBuf {
+    let path = PathBuf::from(env!("CARGO_TARGET_TMPDIR")).join(name);
+    let _ = std::fs::remove_dir_all(&path);
+    std::fs::create_dir_all(&path).unwrap();
+    path
+}
+
+fn played(calendar: &[u8], tape: &[u8]) -> String {
+    let mut out = Vec::new();
+    play(calendar, tape, &mut out).unwrap();
+    String::from_utf8(out).unwrap()
+}
+
+#[test]
+fn a_seed_gives_the_same_tape_again() {
+    let tape = output(RANDOMTAPE, "--seed 5 --records 200", b"");
+    assert_eq!(tape, output(RANDOMTAPE, "--seed 5 --records 200", b""));
+    assert_ne!(tape, output(RANDOMTAPE, "--seed 6 --records 200", b""));
+    assert_eq!(tape.len().div_ceil(RECORD_BYTES), 200);
+}
+
+#[test]
+fn a_shuffled_tape_leads_to_the_same_files() {
+    let calendar = folder("shuffled").join("calendar.bin");
+    for seed in 0..12 {
+        let arguments = format!("--seed {seed} --premises 70 --records 400");
+        let with_calendar = format!(
+            "{arguments} --no-full --calendar-out {}",
+            calendar.display()
+        );
+        let tape = output(RANDOMTAPE, &with_calendar, b"");
+        let shuffled = output(RANDOMTAPE, &format!("{arguments} --shuffle {seed}"), b"");
+        assert_ne!(tape, shuffled);
+        let days = std::fs::read(&calendar).unwrap();
+        let (lines, shuffled_lines) = (played(&days, &tape), played(&days, &shuffled));
+        let last = |lines: &str| lines[lines.find("\np ").unwrap()..].to_owned();
+        assert_eq!(last(&lines), last(&shuffled_lines));
+        assert!(!meets_full_book(&lines) && !meets_full_book(&shuffled_lines));
+    }
+}
+
+/// Has a record's line the answer 6?
+fn meets_full_book(lines: &str) -> bool {
+    lines.lines().any(|line| {
+        let fields: Vec<&str> = line.split(' ').collect();
+        fields.len() == 3 && fields[0] != "t" && fields[1] == "6"
+    })
+}
+
+#[test]
+fn a_hundred_seeds_meet_everything_a_tape_can_meet() {
+    let lines = text(RANDOMTAPE, "--coverage 0 100", b"");
+    assert!(lines.ends_with("not met: nothing\n"), "{lines}");
+}
+
+#[test]
+fn calls_are_read_as_they_were_written() {
+    let calls = output(CALLCHECK, "--make --seed 9 --count 60", b"");
+    let lines = text(CALLCHECK, "", &calls);
+    let heads: Vec<&str> = lines
+        .lines()
+        .filter(|line| line.starts_with("c "))
+        .collect();
+    assert_eq!(heads.len(), 60);
+    assert!(heads[59].starts_with("c 60 "));
+    assert!(!lines.contains("\nx "));
+}
+
+/// A call written by hand, byte by byte as the layout says.
+#[test]
+fn a_call_byte_by_byte() {
+    let mut call = vec![5, 0, 1];
+    call.extend([7, 0, 0, 0, 0, 0, 0, 0, 101, 0, 0, 0, 4, 0, 1]);
+    call.extend([9, 0, 0, 0, 1, 202, 0, 0, 0, 6, 0, 0, 16, 1, 2, 0, 0]);
+    call.resize(9_667, 0);
+    call.extend([6, 0, 0, 0, 2, 2, 2, 2, 2, 0]);
+    let scheduled = [
+        4, 0, 8, 0, 9, 0, 0, 0, 7, 0, 0, 0, 0, 0, 0, 0, 0, 0, 0, 0, 0, 0, 0, 0,
+    ];
+    assert!(decode(&scheduled).is_some());
+    call.extend([24, 0, 0, 0]);
+    call.extend(scheduled);
+    call.extend([0, 96, 0, 0]);
+    let lines = "c 1 0 2\nn 3 1 8 9 7 202\nn 4 1 8 9 7 101\n\
+                 b 5 1\nf 0 7 101 4 1\no 0 0 9 1 202 6 8 3 2 0 1\n";
+    assert_eq!(text(CALLCHECK, "", &call), lines);
+    // the same on a book that is damaged in an unused place
+    call[9_666] = 1;
+    let lines = "c 1 2 0\nb 5 1\nf 0 7 101 4 1\no 0 0 9 1 202 6 4096 1 2 0 0\n\
+                 f 63 0 0 0 0\no 63 7 0 0 0 0 0 0 0 0 1\n";
+    assert_eq!(text(CALLCHECK, "", &call), lines);
+}
+
+#[test]
+fn a_call_that_breaks_off_is_an_error() {
+    let calls = output(CALLCHECK, "--make --seed 9 --count 2", b"");
+    let broken = run(CALLCHECK, "", &calls[..calls.len() - 1]);
+    assert!(!broken.status.success() && broken.stdout.is_empty());
+    assert!(String::from_utf8(broken.stderr)
+        .unwrap()
+        .contains("call 2 breaks off"));
+}
+
+#[test]
+fn the_measured_tapes_can_be_written_out() {
+    let place = folder("dump");
+    output(BENCH, &format!("--dump {}", place.display()), b"");
+    let lines = |name: &str| {
+        let read = |file: &str| std::fs::read(place.join(name).join(file)).unwrap();
+        played(&read("calendar.bin"), &read("tape.bin"))
+    };
+    assert!(lines("marks").ends_with("t 1896 0\n"));
+    let mixed = lines("mixed");
+    let last: Vec<u32> = mixed.lines().last().unwrap()[2..]
+        .split(' ')
+        .map(|number| number.parse().unwrap())
+        .collect();
+    assert_eq!(last[0] + last[1], 2_730);
+    assert!(last[0] > 2_500, "mostly accepted: {last:?}");
+}
+
+/// To the end of the tape of marks the orders keep the marks busy.
+#[test]
+fn the_marks_have_work_to_the_end() {
+    let place = folder("busy");
+    output(BENCH, &format!("--dump {}", place.display()), b"");
+    let read = |file: &str| std::fs::read(place.join("marks").join(file)).unwrap();
+    let lines = played(&read("calendar.bin"), &read("tape.bin"));
+    let mark = |place: usize| {
+        let start = format!("\n{place} 0 ");
+        let found = lines.find(&start).unwrap() + start.len();
+        lines[found..]
+            .lines()
+            .next()
+            .unwrap()
+            .parse::<u32>()
+            .unwrap()
+    };
+    // three drops of each file come to their end at the very last mark
+    assert_eq!(mark(1_896), 3 * 64);
+    let busy = (897..=1_896).filter(|&place| mark(place) > 0).count();
+    assert!(busy > 15, "{busy}");
+}
+
+#[test]
+fn bench_prints_a_best_and_a_median() {
+    let lines = text(BENCH, "--runs 1", b"");
+    assert_eq!(lines.matches("ns a record").count(), 6);
+}
+
+#[test]
+fn they_say_what_is_wrong_with_their_arguments() {
+    for (program, arguments, hint) in [
+        (RANDOMTAPE, "", "--seed"),
+        (RANDOMTAPE, "--seed", "needs a value"),
+        (RANDOMTAPE, "--seed x", "takes a number"),
+        (RANDOMTAPE, "--seed 1 --records 2731", "at most 2730"),
+        (RANDOMTAPE, "--seed 1 --premises 0", "give 1 to"),
+        (RANDOMTAPE, "--coverage 1", "TO of --coverage"),
+        (RANDOMTAPE, "--seed 1 --tape x", "--tape"),
+        (CALLCHECK, "--make", "--seed and --count"),
+        (CALLCHECK, "calls", "calls"),
+        (BENCH, "--runs 0", "at least 1"),
+        (BENCH, "fast", "fast"),
+    ] {
+        let output = run(program, arguments, b"");
+        assert!(!output.status.success() && output.stdout.is_empty());
+        let message = String::from_utf8(output.stderr).unwrap();
+        assert!(message.contains(hint), "{message}");
+    }
+    for program in [RANDOMTAPE, CALLCHECK, BENCH] {
+        assert!(text(program, "--help", b"").contains("usage: "));
+    }
+}

@@ -1,0 +1,170 @@
+//! The forms of a record: which words stand for which record kind and detail,
+//! and which fields each carries. A new record kind is one more row here.
+
+/// Length of a record.
+pub const RECORD_BYTES: usize = 24;
+
+/// A field's name in the text and its place in the record, low byte first.
+#[derive(Clone, Copy, Debug, PartialEq, Eq)]
+pub(crate) struct Field {
+    pub name: &'static str,
+    pub offset: usize,
+    pub width: usize,
+}
+
+pub(crate) const DAY: Field = Field {
+    name: "day",
+    offset: 2,
+    width: 2,
+};
+const REFERENCE: Field = Field {
+    name: "reference",
+    offset: 4,
+    width: 4,
+};
+const PREMISE: Field = Field {
+    name: "premise",
+    offset: 8,
+    width: 8,
+};
+const RETAILER: Field = Field {
+    name: "retailer",
+    offset: 16,
+    width: 4,
+};
+
+impl Field {
+    /// The biggest number that fits the field.
+    pub fn most(self) -> u64 {
+        u64::MAX >> (64 - 8 * self.width)
+    }
+
+    /// The field's number in a record of full length.
+    pub fn get(self, record: &[u8]) -> u64 {
+        let bytes = &record[self.offset..self.offset + self.width];
+        bytes
+            .iter()
+            .rev()
+            .fold(0, |number, &byte| number << 8 | u64::from(byte))
+    }
+
+    /// Puts a number that fits into a record of full length.
+    pub fn put(self, record: &mut [u8], number: u64) {
+        let bytes = number.to_le_bytes();
+        record[self.offset..self.offset + self.width].copy_from_slice(&bytes[..self.width]);
+    }
+}
+
+/// How the fields of a form are written.
+#[derive(Clone, Copy, Debug, PartialEq, Eq)]
+pub(crate) enum Fields {
+    /// One number right after the words, without a name.
+    Bare(Field),
+    /// Each with its name before it, in any order; the optional ones are 0
+    /// where they are left out.
+    Named {
+        required: &'static [Field],
+        optional: &'static [Field],
+    },
+}
+
+/// One form of a record.
+#[derive(Debug, PartialEq, Eq)]
+pub(crate) struct Form {
+    pub words: &'static [&'static str],
+    pub kind: u8,
+    pub detail: u8,
+    pub fields: Fields,
+}
+
+const fn form(
+    words: &'static [&'static str],
+    kind: u8,
+    detail: u8,
+    required: &'static [Field],
+) -> Form {
+    Form {
+        words,
+        kind,
+        detail,
+        fields: Fields::Named {
+            required,
+            optional: &[],
+        },
+    }
+}
+
+const ORDER: &[Field] = &[PREMISE, REFERENCE, DAY, RETAILER];
+const DATED: &[Field] = &[PREMISE, REFERENCE, DAY];
+const NAMED: &[Field] = &[PREMISE, REFERENCE];
+
+/// All forms, in document 01's order of record kinds. No two share kind and
+/// detail, and no form's words begin another's.
+pub(crate) const FORMS: &[Form] = &[
+    form(&["create"], 1, 0, &[PREMISE, DAY, RETAILER]),
+    form(&["retire"], 2, 0, &[PREMISE]),
+    form(&["move-in"], 3, 1, ORDER),
+    form(&["move-out"], 3, 2, ORDER),
+    // A standard switch names no day: its requested day is the switch date. A
+    // day can still be written, since a tape must be able to show it refused.
+    Form {
+        words: &["standard-switch"],
+        kind: 3,
+        detail: 3,
+        fields: Fields::Named {
+            required: &[PREMISE, REFERENCE, RETAILER],
+            optional: &[DAY],
+        },
+    },
+    form(&["self-selected-switch"], 3, 4, ORDER),
+    form(&["drop"], 3, 5, ORDER),
+    form(&["scheduled"], 4, 0, DATED),
+    form(&["permit"], 5, 0, NAMED),
+    form(&["unexecutable"], 6, 0, NAMED),
+    form(&["read"], 7, 0, DATED),
+    form(&["cancel"], 8, 0, &[PREMISE, REFERENCE, RETAILER]),
+    form(&["reply", "accept"], 9, 1, NAMED),
+    form(&["reply", "reject"], 9, 2, NAMED),
+    Form {
+        words: &["day"],
+        kind: 10,
+        detail: 0,
+        fields: Fields::Bare(DAY),
+    },
+];
+
+#[cfg(test)]
+mod tests {
+    use super::*;
+
+    #[test]
+    fn no_two_forms_share_kind_and_detail() {
+        for (place, one) in FORMS.iter().enumerate() {
+            for other in &FORMS[..place] {
+                assert_ne!((one.kind, one.detail), (other.kind, other.detail));
+            }
+        }
+    }
+
+    #[test]
+    fn no_forms_words_begin_anothers() {
+        for (place, one) in FORMS.iter().enumerate() {
+            for (other_place, other) in FORMS.iter().enumerate() {
+                assert!(place == other_place || !one.words.starts_with(other.words));
+            }
+        }
+    }
+
+    #[test]
+    fn a_field_holds_every_number_up_to_its_most() {
+        for field in [DAY, REFERENCE, PREMISE, RETAILER] {
+            for number in [0, 1, field.most() / 3, field.most()] {
+                let mut record = [0; RECORD_BYTES];
+                field.put(&mut record, number);
+                assert_eq!(field.get(&record), number);
+            }
+        }
+        assert_eq!(DAY.most(), 65_535);
+        assert_eq!(PREMISE.most(), u64::MAX);
+    }
+}

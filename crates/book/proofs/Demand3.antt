@@ -1,0 +1,176 @@
+-- Demand 3: from a fresh book every premise has what the one-premise rules give from its own records and the day marks; so the order of
+-- records between premises does not matter. Assumes nothing.
+use Prim.Native.Nat.{ℕ, min}
+use mathlib.Core.Path.{_≡_, refl, ap, ap₂, sym, subst, _∙_}
+use mathlib.Core.List.{List, [], _∷_, _++_, map, append-assoc}
+use mathlib.Core.Bool.{Bool, true, false, cond}
+use native.Mathlib.Omega.{arith}
+use Rattle.days.specs.Days.{lastDay}
+use Rattle.records.specs.declared.Record.{Record}
+use Rattle.records.specs.Records.{reading}
+use Rattle.records.specs.Notices.{encode}
+use Rattle.premise.specs.Refusals.{number}
+use Rattle.premise.specs.OnePremise.{State, Given, startState, step, runs, endState}
+use Rattle.book.specs.declared.Book.{Book}
+use Rattle.book.specs.Book.{filesOf, bookOf, freshBook, fileFor}
+use Rattle.book.specs.Calls.{premiseState, Result, call}
+use Rattle.book.specs.Demand3.{Made, Played, lastBook, Allowed, AllAllowed, Premise, concerns, ownBytes, said, records, answers, rowsOf, withPremise, noticesFor, ruledAnswers, ruledNotices, AsRuled, EachPremiseAlone, SameFor, ShuffleProof}
+use Rattle.book.specs.Promise.{Promised}
+use Rattle.book.proofs.Files.{rises-rising}
+use Rattle.book.proofs.SameFiles.{same-files}
+use Rattle.book.proofs.Kept.{book-kept-means, fresh-kept, holds-its-files}
+use Rattle.book.proofs.Keeps.{call-keeps}
+use Rattle.book.proofs.Picks.{rows-emitted}
+use Rattle.book.proofs.Acts.{acted, call-acts}
+use Rattle.book.proofs.OnWay.{OnWay, sound, ranged-acted}
+use Rattle.book.proofs.OneCall.{state-of, mine, Agrees, agrees}
+
+-- ---- a list of calls is its first call and the rest
+own-first : (premise : ℕ) (m : Made) (ms : List Made) → records (ownBytes premise (m ∷ ms)) ≡ mine premise (reading (m .bytes)) ++ records (ownBytes premise ms)
+own-first premise m ms = go (concerns premise (reading (m .bytes)))
+  where
+    go : (c : Bool) → records (cond c (m .bytes ∷ ownBytes premise ms) (ownBytes premise ms)) ≡ cond c (said (reading (m .bytes))) [] ++ records (ownBytes premise ms)
+    go true = refl
+    go false = refl
+
+answers-first : (premise : ℕ) (m : Made) (ms : List Made)
+    → answers premise (m ∷ ms) ≡ cond (concerns premise (reading (m .bytes))) (number (m .reply .answer) ∷ []) [] ++ answers premise ms
+answers-first premise m ms = go (concerns premise (reading (m .bytes)))
+  where
+    go : (c : Bool) → cond c (number (m .reply .answer) ∷ answers premise ms) (answers premise ms) ≡ cond c (number (m .reply .answer) ∷ []) [] ++ answers premise ms
+    go true = refl
+    go false = refl
+
+-- the one-premise rules on a list and then on another
+end-append : (calendar : List ℕ) (s : State) (xs ys : List Record) → endState calendar s (xs ++ ys) ≡ endState calendar (endState calendar s xs) ys
+end-append calendar s [] ys = refl
+end-append calendar s (x ∷ xs) ys = end-append calendar (step calendar s x .state) xs ys
+
+runs-append : (calendar : List ℕ) (s : State) (xs ys : List Record) → runs calendar s (xs ++ ys) ≡ runs calendar s xs ++ runs calendar (endState calendar s xs) ys
+runs-append calendar s [] ys = refl
+runs-append calendar s (x ∷ xs) ys = ap (λ (l : List Given). step calendar s x ∷ l) (runs-append calendar (step calendar s x .state) xs ys)
+
+answers-append : (gs hs : List Given) → ruledAnswers (gs ++ hs) ≡ ruledAnswers gs ++ ruledAnswers hs
+answers-append [] hs = refl
+answers-append (g ∷ gs) hs = ap (λ (l : List ℕ). number (g .answer) ∷ l) (answers-append gs hs)
+
+notices-append : (gs hs : List Given) → ruledNotices (gs ++ hs) ≡ ruledNotices gs ++ ruledNotices hs
+notices-append [] hs = refl
+notices-append (g ∷ gs) hs =
+    ap (λ (l : List (List ℕ)). map encode (g .notices) ++ l) (notices-append gs hs) ∙ sym (append-assoc (map encode (g .notices)) (ruledNotices gs) (ruledNotices hs))
+
+-- ---- from any book on the way
+record Alone (calendar : List ℕ) (premise : ℕ) (b : Book) (s : State) (ms : List Made) : Type 0 where
+  state : premiseState (lastBook b ms) premise ≡ endState calendar s (records (ownBytes premise ms))
+  answered : answers premise ms ≡ ruledAnswers (runs calendar s (records (ownBytes premise ms)))
+  told : noticesFor premise ms ≡ ruledNotices (runs calendar s (records (ownBytes premise ms)))
+
+module _ (calendar : List ℕ) where
+  module _ (b : Book) (k : OnWay b) (m : Made) (p : Promised calendar b (m .bytes) (m .lent) (m .reply) (m .after)) (a : Allowed b m) where
+    did : call calendar b (m .bytes) (m .lent) ≡ acted calendar b (reading (m .bytes))
+    did = call-acts calendar b (m .bytes) (m .lent) (k .kept) (a .room) (a .places)
+
+    -- the book that the call returned is on the way too
+    on-way : OnWay (m .reply .book)
+    on-way =
+        let e : m .reply .book ≡ acted calendar b (reading (m .bytes)) .book = p .book ∙ ap (λ (x : Result). x .book) did in
+        record {
+          kept = book-kept-means (m .reply .book) .0 (rw (p .book) (call-keeps calendar b (m .bytes) (m .lent) (book-kept-means b .1 (k .kept))));
+          ranged = rw e (ranged-acted calendar b k (reading (m .bytes)) (sound (m .bytes) (a .real)));
+        }
+
+    -- what it returned: the notices as its promise has them
+    abbrev returned : Result
+    returned = record { answer = m .reply .answer; notices = call calendar b (m .bytes) (m .lent) .notices; book = m .reply .book }
+
+    returned-is : returned ≡ acted calendar b (reading (m .bytes))
+    returned-is = (λ i. record { answer = p .answer i; notices = call calendar b (m .bytes) (m .lent) .notices; book = p .book i }) ∙ did
+
+    call-agrees : (premise : ℕ) → Agrees calendar premise b (reading (m .bytes)) returned
+    call-agrees premise = subst (Agrees calendar premise b (reading (m .bytes))) (sym returned-is) (agrees calendar b k premise (reading (m .bytes)) (sound (m .bytes) (a .real)))
+
+    -- the notices of the premise that stand in the buffer on return
+    call-told : (premise : ℕ)
+        → withPremise premise (rowsOf (m .reply .sent) (m .after)) ≡ ruledNotices (runs calendar (premiseState b premise) (mine premise (reading (m .bytes))))
+    call-told premise =
+        ap (withPremise premise) (rows-emitted (m .lent) (m .after) (m .reply .sent) (call calendar b (m .bytes) (m .lent) .notices) (p .notices)) ∙ call-agrees premise .told
+
+  alone : (premise : ℕ) (b : Book) (ms : List Made) → OnWay b → Played calendar b ms → AllAllowed b ms → Alone calendar premise b (premiseState b premise) ms
+  alone premise b [] k p a = record { state = refl; answered = refl; told = refl }
+  alone premise b (m ∷ ms) k p a =
+      let one = call-agrees b k m (p .0) (a .0) premise in
+      let rest = alone premise (m .reply .book) ms (on-way b k m (p .0) (a .0)) (p .1) (a .1) in
+      let s : State = premiseState b premise in
+      let next : State = premiseState (m .reply .book) premise in
+      let now : List Record = mine premise (reading (m .bytes)) in
+      let later : List Record = records (ownBytes premise ms) in
+      let own : records (ownBytes premise (m ∷ ms)) ≡ now ++ later = own-first premise m ms in
+      let split : runs calendar s (records (ownBytes premise (m ∷ ms))) ≡ runs calendar s now ++ runs calendar next later =
+      ap (runs calendar s) own ∙ runs-append calendar s now later ∙ ap (λ x. runs calendar s now ++ runs calendar x later) (sym (one .state)) in
+      record {
+        state = rest .state ∙ ap (λ x. endState calendar x later) (one .state) ∙ sym (end-append calendar s now later) ∙ ap (endState calendar s) (sym own);
+        answered =
+            answers-first premise m ms ∙ ap₂ (λ (x y : List ℕ). x ++ y) (one .answered) (rest .answered)
+            ∙ sym (answers-append (runs calendar s now) (runs calendar next later)) ∙ ap ruledAnswers (sym split);
+        told =
+            ap₂ (λ (x y : List (List ℕ)). x ++ y) (call-told b k m (p .0) (a .0) premise) (rest .told)
+            ∙ sym (notices-append (runs calendar s now) (runs calendar next later)) ∙ ap ruledNotices (sym split);
+      }
+
+  last-on-way : (b : Book) (ms : List Made) → OnWay b → Played calendar b ms → AllAllowed b ms → OnWay (lastBook b ms)
+  last-on-way b [] k p a = k
+  last-on-way b (m ∷ ms) k p a = last-on-way (m .reply .book) ms (on-way b k m (p .0) (a .0)) (p .1) (a .1)
+
+-- ---- from a fresh book
+fresh-on-way : (start : ℕ) → OnWay (freshBook start)
+fresh-on-way start = record { kept = book-kept-means (freshBook start) .0 (fresh-kept start); ranged = rw (holds-its-files (min start lastDay) []) tt }
+
+fresh-state : (start premise : ℕ) → premiseState (freshBook start) premise ≡ startState start
+unfolding fileFor
+fresh-state start premise = state-of (min start lastDay) premise []
+
+pub each-premise-alone : EachPremiseAlone
+each-premise-alone calendar start ms p a premise i =
+    let x = subst (λ s. Alone calendar premise (freshBook start) s ms) (fresh-state start premise) (alone calendar premise (freshBook start) ms (fresh-on-way start) p a) in
+    record {
+      file = ap (λ (s : State). s .file) (x .state);
+      today = ap (λ (s : State). s .today) (x .state);
+      answered = x .answered;
+      told = x .told;
+    }
+
+-- a book is its day and its files
+same-book : (b c : Book) → OnWay b → OnWay c → b .today ≡ c .today → ((premise : ℕ) → Premise premise → fileFor premise (filesOf b) ≡ fileFor premise (filesOf c)) → b ≡ c
+same-book b c k l day same =
+    let files : filesOf b ≡ filesOf c =
+    same-files Premise 0 0 (filesOf b) (filesOf c) (rises-rising 0 (filesOf b) (k .kept .rising)) (rises-rising 0 (filesOf c) (l .kept .rising)) (k .ranged) (l .ranged) same in
+    k .kept .whole ∙ ap₂ bookOf day files ∙ sym (l .kept .whole)
+
+pub shuffle-proof : ShuffleProof
+shuffle-proof calendar start ms ns p a q c agree =
+    record {
+      each = each;
+      book =
+          same-book (lastBook (freshBook start) ms) (lastBook (freshBook start) ns) (last-on-way calendar (freshBook start) ms (fresh-on-way start) p a)
+          (last-on-way calendar (freshBook start) ns (fresh-on-way start) q c) day (λ premise i. each premise i .file);
+    }
+  where
+    one : (premise : ℕ) → Premise premise → AsRuled calendar start premise ms
+    one = each-premise-alone calendar start ms p a
+
+    other : (premise : ℕ) → Premise premise → AsRuled calendar start premise ns
+    other = each-premise-alone calendar start ns q c
+
+    each : (premise : ℕ) → Premise premise → SameFor start premise ms ns
+    each premise i =
+        record {
+          file = one premise i .file ∙ ap (λ l. endState calendar (startState start) (records l) .file) (agree premise i) ∙ sym (other premise i .file);
+          answered = one premise i .answered ∙ ap (λ l. ruledAnswers (runs calendar (startState start) (records l))) (agree premise i) ∙ sym (other premise i .answered);
+          told = one premise i .told ∙ ap (λ l. ruledNotices (runs calendar (startState start) (records l))) (agree premise i) ∙ sym (other premise i .told);
+        }
+
+    -- T is that of any premise
+    day : lastBook (freshBook start) ms .today ≡ lastBook (freshBook start) ns .today
+    day =
+        let i : Premise 1 = record { above = omega arith; below = omega arith } in
+        one 1 i .today ∙ ap (λ l. endState calendar (startState start) (records l) .today) (agree 1 i) ∙ sym (other 1 i .today)

@@ -1,0 +1,110 @@
+-- A well-kept book: the test and the facts behind it say the same, and a book is made of its day and its files. Assumes nothing.
+use Prim.Native.Nat.{ℕ, zero, suc, _-_, _≤_, min}
+use mathlib.Core.Path.{_≡_, refl, ap, sym, _∙_}
+use mathlib.Core.List.{List, [], _∷_, _++_}
+use mathlib.Core.Bool.{Bool, true}
+use native.Mathlib.Omega.{arith}
+use lib.Dec.{eqb, leb}
+use lib.ListN.{length, drop, replicate, length-append, length-drop, length-replicate, take-append-drop}
+use lib.Seq.{take-at, drop-at, length-take-le}
+use borrow.Author.Tests.{eqb-true, leb-true, eq-eqb, le-leb}
+use Rattle.lists.specs.Search.{allOf, Each}
+use Rattle.lists.proofs.TestLaws.{and-left, and-right, pass-each}
+use Rattle.days.specs.Days.{lastDay, isDay}
+use Rattle.premise.specs.declared.File.{File}
+use Rattle.premise.specs.Orders.{blankFile}
+use Rattle.premise.specs.WellKept.{fileKept, fileBlank, FileKept}
+use Rattle.premise.proofs.Blank.{blank-means}
+use Rattle.premise.proofs.KeptFiles.{kept-means}
+use Rattle.book.specs.declared.Book.{Book}
+use Rattle.book.specs.Book.{mostFiles, filesOf, bookOf, risesFrom, bookKept}
+use Rattle.book.specs.Laws.{BookKept, BookKeptMeans, HoldsItsFiles, FreshKept}
+
+-- ---- every file of a list
+each-kept : (fs : List File) → allOf fileKept fs ≡ true → Each FileKept fs
+each-kept [] e = tt
+each-kept (f ∷ fs) e = (kept-means f .0 (and-left (fileKept f) (allOf fileKept fs) e), each-kept fs (and-right (fileKept f) (allOf fileKept fs) e))
+
+kept-each : (fs : List File) → Each FileKept fs → allOf fileKept fs ≡ true
+kept-each [] u = refl
+kept-each (f ∷ fs) u = rw (kept-means f .1 (u .0)) (kept-each fs (u .1))
+
+-- unused places are blank
+blanks : (n : ℕ) (fs : List File) → length fs ≡ n → allOf fileBlank fs ≡ true → fs ≡ replicate n blankFile
+blanks zero [] h e = refl
+blanks zero (f ∷ fs) h e = absurd (omega arith)
+blanks (suc n) [] h e = absurd (omega arith)
+blanks (suc n) (f ∷ fs) h e =
+    let first = blank-means f .0 (and-left (fileBlank f) (allOf fileBlank fs) e) in
+    let rest = blanks n fs (omega arith) (and-right (fileBlank f) (allOf fileBlank fs) e) in
+    cc
+
+are-blank : (n : ℕ) → allOf fileBlank (replicate n blankFile) ≡ true
+are-blank zero = refl
+are-blank (suc n) = rw (blank-means blankFile .1 refl) (are-blank n)
+
+-- ---- a book by its day and its files
+pub holds-its-files : HoldsItsFiles
+unfolding bookOf
+holds-its-files today fs = take-at fs (replicate (mostFiles - length fs) blankFile) (length fs) refl
+
+whole : (b : Book) → b .count ≤ mostFiles → length (b .files) ≡ mostFiles → allOf fileBlank (drop (b .count) (b .files)) ≡ true → b ≡ bookOf (b .today) (filesOf b)
+unfolding bookOf
+whole b few long unused =
+    let counted : length (filesOf b) ≡ b .count = length-take-le (b .count) (b .files) (omega arith) in
+    let rest : drop (b .count) (b .files) ≡ replicate (mostFiles - length (filesOf b)) blankFile =
+    blanks (mostFiles - length (filesOf b)) (drop (b .count) (b .files)) (omega (arith, length-drop (b .count) (b .files))) unused in
+    let files : b .files ≡ filesOf b ++ replicate (mostFiles - length (filesOf b)) blankFile = sym (take-append-drop (b .count) (b .files)) ∙ ap (λ l. filesOf b ++ l) rest in
+    λ i. record { today = b .today; count = sym counted i; files = files i }
+
+kept-facts : (b : Book) → bookKept b ≡ true → BookKept b
+unfolding bookKept
+kept-facts b e =
+    let day : Bool = isDay (b .today) in
+    let few : Bool = leb (b .count) mostFiles in
+    let long : Bool = eqb (length (b .files)) mostFiles in
+    let kept : Bool = allOf fileKept (filesOf b) in
+    let rising : Bool = risesFrom 0 (filesOf b) in
+    let unused : Bool = allOf fileBlank (drop (b .count) (b .files)) in
+    let t = pass-each day (few ∷ long ∷ kept ∷ rising ∷ unused ∷ []) e in
+    let within = leb-true (b .count) mostFiles (t .1 .0) in
+    record {
+      today = leb-true (b .today) lastDay (t .0);
+      few = within;
+      files = each-kept (filesOf b) (t .1 .1 .1 .0);
+      rising = t .1 .1 .1 .1 .0;
+      whole = whole b within (eqb-true (length (b .files)) mostFiles (t .1 .1 .0)) (t .1 .1 .1 .1 .1 .0);
+    }
+
+-- a day, and at most 64 files that are well kept and rise, make a well-kept book
+pub kept-of : (today : ℕ) (fs : List File) → today ≤ lastDay → length fs ≤ mostFiles → Each FileKept fs → risesFrom 0 fs ≡ true → bookKept (bookOf today fs) ≡ true
+unfolding bookKept bookOf
+kept-of today fs day few kept rising =
+    let long : length (fs ++ replicate (mostFiles - length fs) blankFile) ≡ mostFiles = simp (length-append, length-replicate) (omega arith) in
+    rw (
+      le-leb today lastDay day,
+      le-leb (length fs) mostFiles few,
+      eq-eqb (length (fs ++ replicate (mostFiles - length fs) blankFile)) mostFiles long,
+      take-at fs (replicate (mostFiles - length fs) blankFile) (length fs) refl,
+      kept-each fs kept,
+      rising,
+      drop-at fs (replicate (mostFiles - length fs) blankFile) (length fs) refl,
+    )
+    (are-blank (mostFiles - length fs))
+
+counted : (today : ℕ) (fs : List File) → bookOf today fs .count ≡ length fs
+unfolding bookOf
+counted today fs = refl
+
+-- the count is the number of files
+pub count-is : (b : Book) → BookKept b → length (filesOf b) ≡ b .count
+count-is b k = sym (ap (λ (x : Book). x .count) (k .whole) ∙ counted (b .today) (filesOf b))
+
+facts-kept : (b : Book) → BookKept b → bookKept b ≡ true
+facts-kept b k = ap bookKept (k .whole) ∙ kept-of (b .today) (filesOf b) (k .today) (omega (arith, k .few, count-is b k)) (k .files) (k .rising)
+
+pub book-kept-means : BookKeptMeans
+book-kept-means b = (kept-facts b, facts-kept b)
+
+pub fresh-kept : FreshKept
+fresh-kept start = kept-of (min start lastDay) [] (omega arith) (omega arith) tt refl

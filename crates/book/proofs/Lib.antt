@@ -1,0 +1,14 @@
+pub mod Files
+pub mod SameFiles
+pub mod Kept
+pub mod Rows
+pub mod Marks
+pub mod Keeps
+pub mod Few
+pub mod Demand1
+pub mod Picks
+pub mod Acts
+pub mod OnWay
+pub mod OneCall
+pub mod Demand3
+pub mod Sample

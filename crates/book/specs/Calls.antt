@@ -1,0 +1,91 @@
+-- Document 01, "The book": the record call. The answer is the number of the first row of the table whose condition holds; accepted, a
+-- record does what the one-premise rules say.
+use Prim.Native.Nat.{ℕ}
+use mathlib.Core.List.{List, [], _∷_, _++_, map}
+use mathlib.Core.Bool.{true, false, cond, not, _&&_}
+use lib.Dec.{eqb, ltb}
+use lib.ListN.{length}
+use Rattle.records.specs.declared.Record.{Record}
+use Rattle.records.specs.declared.Reading.{Reading}
+use Rattle.records.specs.declared.Reading.the-variants.{Malformed, Says}
+use Rattle.records.specs.declared.Notice.{Notice}
+use Rattle.records.specs.Records.{reading, kindCreate, kindDayMark}
+use Rattle.premise.specs.declared.File.{File}
+use Rattle.premise.specs.declared.Answer.{Answer}
+use Rattle.premise.specs.declared.Answer.the-variants.{Accepted, ShortBuffer, NotWellKept, MalformedRecord, BookFull}
+use Rattle.premise.specs.Steps.{is}
+use Rattle.premise.specs.Refusals.{Row, row, firstRow, number, ordersOf, premiseRows, orderRows}
+use Rattle.premise.specs.OnePremise.{State, marked, step}
+use Rattle.book.specs.declared.Book.{Book}
+use Rattle.book.specs.Book.{mostFiles, filesOf, bookOf, bookKept, fileFor, withFile}
+
+-- the shortest buffer that is taken
+abbrev pub noticeBytes : ℕ
+noticeBytes = 24576
+
+-- ---- the table
+-- rows 3 to 15, by what the record's bytes say
+abbrev pub recordRows : List ℕ → Book → Reading → List Row
+recordRows calendar b Malformed = row MalformedRecord true ∷ []
+recordRows calendar b (Says r) =
+    row MalformedRecord false
+    ∷ premiseRows (fileFor (r .premise) (filesOf b)) r
+    ++ (row BookFull (is kindCreate r && eqb (length (filesOf b)) mostFiles)
+    ∷ orderRows calendar (b .today) (ordersOf (fileFor (r .premise) (filesOf b))) r)
+
+-- the whole table, in its order
+unfoldable pub callRows : List ℕ → Book → List ℕ → List ℕ → List Row
+callRows calendar b bytes lent =
+    row ShortBuffer (ltb (length lent) noticeBytes)
+    ∷ row NotWellKept (not (bookKept b))
+    ∷ recordRows calendar b (reading bytes)
+
+-- ---- what a record does that meets no row
+-- what comes of a call: the answer, the notices, and the book afterwards
+pub record Result : Type 0 where
+  pub answer : Answer
+  pub notices : List Notice
+  pub book : Book
+
+-- A day mark: T becomes the day; each file in rising P does the clock, then the evaluation.
+abbrev pub markedFiles : List ℕ → ℕ → List File → List File
+markedFiles calendar day fs = map (λ (f : File). marked calendar day f .file) fs
+
+abbrev pub markedNotices : List ℕ → ℕ → List File → List Notice
+markedNotices calendar day [] = []
+markedNotices calendar day (f ∷ fs) = marked calendar day f .notices ++ markedNotices calendar day fs
+
+abbrev pub onMark : List ℕ → Book → Record → Result
+onMark calendar b r =
+    record {
+      answer = Accepted;
+      notices = markedNotices calendar (r .day) (filesOf b);
+      book = bookOf (r .day) (markedFiles calendar (r .day) (filesOf b));
+    }
+
+-- Any other record goes to its premise: the one-premise rules on T and that file or none.
+abbrev pub premiseState : Book → ℕ → State
+premiseState b premise = record { today = b .today; file = fileFor premise (filesOf b) }
+
+abbrev pub onPremise : List ℕ → Book → Record → Result
+onPremise calendar b r =
+    record {
+      answer = Accepted;
+      notices = step calendar (premiseState b (r .premise)) r .notices;
+      book = bookOf (b .today) (withFile (r .premise) (step calendar (premiseState b (r .premise)) r .state .file) (filesOf b));
+    }
+
+abbrev pub onReading : List ℕ → Book → Reading → Result
+onReading calendar b Malformed = record { answer = MalformedRecord; notices = []; book = b }
+onReading calendar b (Says r) = cond (is kindDayMark r) (onMark calendar b r) (onPremise calendar b r)
+
+-- ---- the call
+-- A refusal returns its number and zero notices; book and buffer stay.
+abbrev pub refusal : Answer → Book → Result
+refusal answer b = record { answer = answer; notices = []; book = b }
+
+unfoldable pub call : List ℕ → Book → List ℕ → List ℕ → Result
+call calendar b bytes lent =
+    cond (eqb (number (firstRow (callRows calendar b bytes lent))) 0)
+    (onReading calendar b (reading bytes))
+    (refusal (firstRow (callRows calendar b bytes lent)) b)

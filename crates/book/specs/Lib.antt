@@ -1,0 +1,6 @@
+pub mod Book
+pub mod Calls
+pub mod Promise
+pub mod Laws
+pub mod Demand1
+pub mod Demand3

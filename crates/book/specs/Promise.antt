@@ -1,0 +1,14 @@
+-- What a record call promises, for every calendar, book, record and buffer: everything that comes out, by equation.
+use mathlib.Core.Path.{_≡_}
+use mathlib.Core.List.{List}
+use Prim.Native.Nat.{ℕ}
+use Rattle.records.specs.Notices.{Emits}
+use Rattle.book.specs.declared.Book.{Book}
+use Rattle.book.specs.declared.Reply.{Reply}
+use Rattle.book.specs.Calls.{call}
+
+-- Acceptance returns 0 and the count n; the first 24 × n bytes hold the notices and the rest stays. A refusal has no notices.
+pub record Promised (calendar : List ℕ) (b : Book) (bytes before : List ℕ) (r : Reply) (after : List ℕ) : Type 0 where
+  pub answer : r .answer ≡ call calendar b bytes before .answer
+  pub book : r .book ≡ call calendar b bytes before .book
+  pub notices : Emits before after (r .sent) (call calendar b bytes before .notices)

@@ -1,0 +1,24 @@
+// The book layer: today and up to 64 files. Here stand its types; what a record call does stands in specs/, from document 01's section
+// "The book", with the theorem about whole lists of calls in specs/Demand3.antt. The helper crates `book_files` and `book_calls` do in
+// code what the definitions say: `book_calls` has the public calls.
+use premise::Answer;
+use premise::File;
+
+// How many files a book holds at most.
+pub const MOST_FILES: usize = 64;
+// The shortest notice buffer that is taken: room for 1,024 notices, two for each order of a full book.
+pub const NOTICE_BYTES: usize = 24_576;
+
+// The book, handed over by value. The first `count` places of `files` hold its files, in rising premise numbers; the others are zero.
+pub struct Book {
+    pub today: u16,
+    pub count: usize,
+    pub files: [File; 64],
+}
+
+// What a record call returns: the answer, how many notices stand in the buffer, and the book afterwards.
+pub struct Reply {
+    pub answer: Answer,
+    pub sent: usize,
+    pub book: Book,
+}

@@ -1,0 +1,198 @@
+-- At most two notices for each held order: what an order has sent and what it may still send never exceed two. Assumes nothing.
+use Prim.Native.Nat.{ℕ, suc, _+_, _≤_, zero-le}
+use mathlib.Core.Path.{_≡_, refl}
+use mathlib.Core.List.{List, [], _∷_}
+use mathlib.Core.Bool.{Bool, true, false, cond, not, _&&_, _||_, or-true, and-false}
+use native.Mathlib.Nat.{le-refl}
+use native.Mathlib.Omega.{arith}
+use lib.ListN.{length, length-append}
+use borrow.Author.Tests.{eqb-true}
+use Rattle.lists.specs.Search.{allOf}
+use Rattle.days.specs.Days.{noDay, isDay}
+use Rattle.days.specs.Window.{inWindow}
+use Rattle.records.specs.declared.Notice.{Notice}
+use Rattle.premise.specs.declared.Order.{Order}
+use Rattle.premise.specs.Orders.{inReview, permitPending, scheduled, cancelPending, cancelled, hasStatus}
+use Rattle.premise.specs.Passes.{Change, passFrom}
+use Rattle.premise.specs.Clock.{toCancelPending, ticked, reviewed, permitAwaited, cancelAwaited}
+use Rattle.premise.specs.Evaluation.{settled, dropped, lapsed, told, contends, displaced, overtaken, due}
+use Rattle.premise.specs.WellKept.{dayFits, orderKept}
+use Rattle.premise.proofs.Tests.{by-test, must, and-left, and-right, by-either}
+
+abbrev pub total : (Order → ℕ) → List Order → ℕ
+total most [] = 0
+total most (o ∷ os) = most o + total most os
+
+-- a list of at most so many notices
+pub record AtMost (many : ℕ) (ns : List Notice) : Type 0 where
+  pub fact : length ns ≤ many
+
+-- a change that sends, with what its order may then still send, at most so many
+pub record Sends (still : Order → ℕ) (most : ℕ) (c : Change) : Type 0 where
+  pub fact : length (c .notices) + still (c .order) ≤ most
+
+pub few-none : {many : ℕ} → AtMost many []
+few-none = record { fact = omega arith }
+
+pub few-one : {n : Notice} → AtMost 1 (n ∷ [])
+few-one = record { fact = omega arith }
+
+pub few-more : {n : Notice} {ns : List Notice} → AtMost 1 ns → AtMost 2 (n ∷ ns)
+few-more h = record { fact = omega (arith, h .fact) }
+
+pub few-either : (b : Bool) {many : ℕ} {xs ys : List Notice} → AtMost many xs → AtMost many ys → AtMost many (cond b xs ys)
+few-either true h k = h
+few-either false h k = k
+
+pub ruleset few = (few-none, few-one, few-more, few-either)
+
+module _ {still : Order → ℕ} {most : ℕ} where
+  sends-none : {o : Order} → still o ≤ most → Sends still most (record { order = o; notices = [] })
+  sends-none h = record { fact = omega arith }
+
+  sends-one : {o : Order} {ns : List Notice} → AtMost 1 ns → still o ≡ 0 → most ≡ 1 → Sends still most (record { order = o; notices = ns })
+  sends-one h e m = record { fact = omega (arith, h .fact) }
+
+  pub sends-two : {o : Order} {ns : List Notice} → AtMost 2 ns → still o ≡ 0 → most ≡ 2 → Sends still most (record { order = o; notices = ns })
+  sends-two h e m = record { fact = omega (arith, h .fact) }
+
+  pub sends-either : (b : Bool) {x y : Change} → (b ≡ true → Sends still most x) → Sends still most y → Sends still most (cond b x y)
+  sends-either true h k = h refl
+  sends-either false h k = k
+
+-- A pass whose step stays within what each order may send, where the orders pass a test, stays within the sum.
+pub pass-few : (fine : Order → Bool) (most still : Order → ℕ) (g : ℕ → Order → Change) → ((i : ℕ) (o : Order) → fine o ≡ true → Sends still (most o) (g i o))
+    → (i : ℕ) (os : List Order) → allOf fine os ≡ true → length (passFrom g i os .notices) + total still (passFrom g i os .orders) ≤ total most os
+pass-few fine most still g h i [] e = omega arith
+pass-few fine most still g h i (o ∷ os) e =
+    omega (
+      arith,
+      h i o (and-left (fine o) (allOf fine os) e) .fact,
+      pass-few fine most still g h (suc i) os (and-right (fine o) (allOf fine os) e),
+      length-append (g i o .notices) (passFrom g (suc i) os .notices),
+    )
+
+-- the same where the step stays within for any order
+any : Order → Bool
+any o = true
+
+all-any : (os : List Order) → allOf any os ≡ true
+unfolding any
+all-any [] = refl
+all-any (o ∷ os) = all-any os
+
+pub each-few : (most still : Order → ℕ) (g : ℕ → Order → Change) → ((i : ℕ) (o : Order) → Sends still (most o) (g i o))
+    → (i : ℕ) (os : List Order) → length (passFrom g i os .notices) + total still (passFrom g i os .orders) ≤ total most os
+each-few most still g h i os = pass-few any most still g (λ i o e. h i o) i os (all-any os)
+
+-- ---- what an order may still send
+-- before the clock
+abbrev pub atMark : Order → ℕ
+atMark o = 2
+
+-- after the clock: one less where it began Cancel Pending without a day, none where it ended it
+abbrev pub atSettling : Order → ℕ
+atSettling o = cond (hasStatus cancelled o) 0 (cond (hasStatus cancelPending o && not (isDay (o .scheduled))) 1 2)
+
+-- after pass 1 and after pass 2
+abbrev pub atDropping : Order → ℕ
+atDropping o = cond (hasStatus scheduled o || hasStatus permitPending o) 2 0
+
+-- after pass 3
+abbrev pub atTelling : Order → ℕ
+atTelling o = cond (hasStatus scheduled o) 1 0
+
+-- after pass 4
+abbrev pub done : Order → ℕ
+done o = 0
+
+pub settling-most : (o : Order) → atSettling o ≤ 2
+settling-most o =
+    by-test (λ (n : ℕ). n ≤ 2) (hasStatus cancelled o)
+    (λ e. omega arith)
+    (λ e. by-test (λ (n : ℕ). n ≤ 2) (hasStatus cancelPending o && not (isDay (o .scheduled))) (λ e. omega arith) (λ e. omega arith))
+
+-- Scheduled and Permit Pending orders may send two
+two-left : (o : Order) → (hasStatus scheduled o || hasStatus permitPending o) ≡ true → atSettling o ≡ 2
+two-left o e = by-either (hasStatus scheduled o) (hasStatus permitPending o) e (λ h. rw (eqb-true (o .status) scheduled h)) (λ h. rw (eqb-true (o .status) permitPending h))
+
+dropping-settling : (o : Order) → atDropping o ≤ atSettling o
+dropping-settling o = by-test (λ (n : ℕ). n ≤ atSettling o) (hasStatus scheduled o || hasStatus permitPending o) (λ e. omega (arith, two-left o e)) (λ e. omega arith)
+
+telling-dropping : (o : Order) → atTelling o ≤ atDropping o
+telling-dropping o = by-test (λ (n : ℕ). n ≤ atDropping o) (hasStatus scheduled o) (λ e. rw e (omega arith)) (λ e. omega arith)
+
+-- ---- the clock, whatever its waits are
+-- SD none in statuses 1 and 2
+no-day : (o : Order) → orderKept o ≡ true → (hasStatus inReview o || hasStatus permitPending o) ≡ true → o .scheduled ≡ noDay
+unfolding orderKept
+no-day o h e = eqb-true (o .scheduled) noDay (rw e at (must (dayFits o) (orderKept o) (λ n. simp (n, and-false)) h))
+
+pending-few : (premise waited : ℕ) (o : Order) → o .scheduled ≡ noDay → Sends atSettling 2 (toCancelPending premise waited o)
+pending-few premise waited o e = record { fact = rw e (omega arith) }
+
+reviewed-few : (business : Bool) (today premise : ℕ) (o : Order) → o .scheduled ≡ noDay → Sends atSettling 2 (reviewed business today premise o)
+unfolding reviewed
+reviewed-few business today premise o e = search (sends-either, sends-none, pending-few, settling-most)
+
+permit-few : (business : Bool) (today premise : ℕ) (o : Order) → o .scheduled ≡ noDay → Sends atSettling 2 (permitAwaited business today premise o)
+unfolding permitAwaited
+permit-few business today premise o e = search (sends-either, sends-none, pending-few, settling-most)
+
+cancel-few : (premise : ℕ) (o : Order) → Sends atSettling 2 (cancelAwaited premise o)
+unfolding cancelAwaited
+cancel-few premise o = search (few, sends-either, sends-none, sends-two, settling-most)
+
+pub ticked-few : (business : Bool) (today premise : ℕ) (o : Order) → orderKept o ≡ true → Sends atSettling 2 (ticked business today premise o)
+unfolding ticked
+ticked-few business today premise o h =
+    by-test (Sends atSettling 2) (hasStatus inReview o)
+    (λ e. reviewed-few business today premise o (no-day o h (rw e refl)))
+    (λ n. by-test (Sends atSettling 2) (hasStatus permitPending o)
+    (λ e. permit-few business today premise o (no-day o h (rw (n, e) refl)))
+    (λ m. by-test (Sends atSettling 2) (hasStatus cancelPending o) (λ e. cancel-few premise o) (λ e. sends-none (settling-most o))))
+
+-- ---- the four passes, one order each
+contends-two : (calendar : List ℕ) (today : ℕ) (o : Order) (also : Bool) → (contends calendar today o && also) ≡ true → atSettling o ≡ 2
+unfolding contends inWindow
+contends-two calendar today o also h =
+    let e : contends calendar today o ≡ true = and-left (contends calendar today o) also h in
+    let day : isDay (o .scheduled) ≡ true = must (isDay (o .scheduled)) (contends calendar today o) (λ n. simp (n, and-false)) e in
+    by-either (hasStatus scheduled o) (hasStatus cancelPending o) (must (hasStatus scheduled o || hasStatus cancelPending o) (contends calendar today o) (λ n. simp (n, and-false)) e)
+    (λ h. two-left o (rw h refl))
+    (λ h. rw (eqb-true (o .status) cancelPending h, day))
+
+displaced-two : (calendar : List ℕ) (today : ℕ) (os : List Order) (o : Order) → displaced calendar today os o ≡ true → atDropping o ≡ 2
+unfolding displaced
+displaced-two calendar today os o e =
+    let h : hasStatus scheduled o ≡ true = must (hasStatus scheduled o) (displaced calendar today os o) (λ n. simp (n, and-false)) e in
+    rw h
+
+overtaken-two : (today : ℕ) (os : List Order) (o : Order) → overtaken today os o ≡ true → atDropping o ≡ 2
+unfolding overtaken
+overtaken-two today os o e =
+    let h : hasStatus permitPending o ≡ true = must (hasStatus permitPending o) (overtaken today os o) (λ n. simp (n, and-false)) e in
+    rw (h, or-true)
+
+due-one : (calendar : List ℕ) (today : ℕ) (o : Order) → due calendar today o ≡ true → atTelling o ≡ 1
+unfolding due
+due-one calendar today o e =
+    let h : hasStatus scheduled o ≡ true = must (hasStatus scheduled o) (due calendar today o) (λ n. simp n) e in
+    rw h
+
+module _ (calendar : List ℕ) (today premise retailer : ℕ) (os : List Order) (i : ℕ) (o : Order) where
+  pub settled-few : Sends atDropping (atSettling o) (settled calendar today premise os i o)
+  unfolding settled
+  settled-few = search (few, sends-either, sends-two, sends-none, contends-two, dropping-settling)
+
+  pub dropped-few : Sends atDropping (atDropping o) (dropped calendar today premise retailer os o)
+  unfolding dropped
+  dropped-few = search (few, sends-either, sends-two, sends-none, displaced-two, le-refl) depth 6
+
+  pub lapsed-few : Sends atTelling (atDropping o) (lapsed today premise os o)
+  unfolding lapsed
+  lapsed-few = search (few, sends-either, sends-two, sends-none, overtaken-two, telling-dropping)
+
+  pub told-few : Sends done (atTelling o) (told calendar today premise retailer o)
+  unfolding told
+  told-few = search (few, sends-either, sends-one, sends-none, due-one, zero-le)

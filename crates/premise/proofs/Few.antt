@@ -1,0 +1,128 @@
+-- A day mark gives at most two notices for each held order, and a record at most two more than that. Assumes nothing.
+use Prim.Native.Nat.{ℕ, _*_, _-_, _≤_, _<_}
+use mathlib.Core.Path.{_≡_, refl, sym, ap, _∙_}
+use mathlib.Core.List.{List, [], _∷_, _++_}
+use mathlib.Core.Option.{Option, none, some}
+use mathlib.Core.Bool.{true, false, cond, true≢false}
+use native.Mathlib.Omega.{arith}
+use lib.Dec.{eqb}
+use lib.ListN.{length, set, replicate, length-append, length-set}
+use lib.Seq.{take-at}
+use Rattle.lists.specs.declared.Found.{Found}
+use Rattle.lists.specs.declared.Found.the-variants.{At, Nothing}
+use Rattle.days.specs.Days.{isBusinessDay}
+use Rattle.records.specs.declared.Record.{Record}
+use Rattle.records.specs.Records.{kindCreate, kindRetire, kindNewOrder, kindDayMark}
+use Rattle.premise.specs.declared.Order.{Order}
+use Rattle.premise.specs.declared.File.{File}
+use Rattle.premise.specs.Orders.{mostOrders, blank, held, places, withOrders}
+use Rattle.premise.specs.Passes.{Outcome, Effect}
+use Rattle.premise.specs.Steps.{is, makeRoom, newOrder, named, orderAt, supplied, ordered, changed, onOrder, onScheduled, onPermit, onUnexecutable, onRead, onCancel, onReply}
+use Rattle.premise.specs.Clock.{clock, ticked}
+use Rattle.premise.specs.Evaluation.{settle, settled, dropDrops, dropped, lapse, lapsed, tell, told, evaluation, evaluated}
+use Rattle.premise.specs.WellKept.{orderKept, FileKept}
+use Rattle.premise.specs.Refusals.{number, firstRow, rows}
+use Rattle.premise.specs.OnePremise.{Given, effectOn, atPlace, marked, stepped, step}
+use Rattle.premise.specs.Laws.{Held, mostOfRecord, MarkFew, StepFew}
+use Rattle.premise.proofs.Tests.{by-test}
+use Rattle.premise.proofs.Room.{held-most, accepted-room}
+use Rattle.premise.proofs.Allowance.{Sends, few, sends-two, sends-either, total, pass-few, each-few, atMark, atSettling, atDropping, atTelling, done, settling-most, ticked-few, settled-few, dropped-few, lapsed-few, told-few}
+
+total-most : (most : Order → ℕ) → ((o : Order) → most o ≤ 2) → (os : List Order) → total most os ≤ 2 * length os
+total-most most h [] = omega arith
+total-most most h (o ∷ os) = omega (arith, h o, total-most most h os)
+
+-- what a file holds that was given some orders
+pub held-with : (f : File) (os : List Order) → held (withOrders f os) ≡ os
+unfolding places
+held-with f os = take-at os (replicate (mostOrders - length os) blank) (length os) refl
+
+-- ---- the evaluation
+evaluation-few : (calendar : List ℕ) (today premise retailer : ℕ) (os : List Order) → length (evaluation calendar today premise retailer os .notices) ≤ total atSettling os
+unfolding evaluation
+evaluation-few calendar today premise retailer os =
+    let one : Outcome = settle calendar today premise os in
+    let two : Outcome = dropDrops calendar today premise retailer (one .orders) in
+    let three : Outcome = lapse today premise (two .orders) in
+    let four : Outcome = tell calendar today premise retailer (three .orders) in
+    omega (
+      arith,
+      each-few atSettling atDropping (settled calendar today premise os) (settled-few calendar today premise retailer os) 0 os,
+      each-few atDropping atDropping (λ (i : ℕ). dropped calendar today premise retailer (one .orders)) (dropped-few calendar today premise retailer (one .orders)) 0 (one .orders),
+      each-few atDropping atTelling (λ (i : ℕ). lapsed today premise (two .orders)) (lapsed-few calendar today premise retailer (two .orders)) 0 (two .orders),
+      each-few atTelling done (λ (i : ℕ). told calendar today premise retailer) (told-few calendar today premise retailer (three .orders)) 0 (three .orders),
+      length-append (one .notices) (two .notices),
+      length-append (one .notices ++ two .notices) (three .notices),
+      length-append ((one .notices ++ two .notices) ++ three .notices) (four .notices),
+    )
+
+pub evaluated-few : (calendar : List ℕ) (today : ℕ) (f : File) → length (evaluated calendar today f .notices) ≤ 2 * length (held f)
+evaluated-few calendar today f = omega (arith, evaluation-few calendar today (f .premise) (f .retailer) (held f), total-most atSettling settling-most (held f))
+
+pub mark-few : MarkFew
+unfolding marked
+mark-few calendar today f k =
+    let ticks : Outcome = clock calendar today (f .premise) (held f) in
+    omega (
+      arith,
+      pass-few orderKept atMark atSettling (λ (i : ℕ). ticked (isBusinessDay calendar today) today (f .premise)) (λ i. ticked-few (isBusinessDay calendar today) today (f .premise)) 0 (held f) (k .orders),
+      total-most atMark (λ o. omega arith) (held f),
+      evaluation-few calendar today (f .premise) (f .retailer) (held (withOrders f (ticks .orders))),
+      ap (total atSettling) (held-with f (ticks .orders)),
+      length-append (ticks .notices) (evaluated calendar today (withOrders f (ticks .orders)) .notices),
+    )
+
+-- ---- a record's own steps
+own-few : (f : File) (r : Record) (o : Order) → Sends done 2 (onOrder f r o)
+unfolding onOrder onScheduled onPermit onUnexecutable onRead onCancel onReply
+own-few f r o = search (few, sends-either, sends-two) depth 12
+
+-- at most two notices, and at most eight orders afterwards
+record Few (e : Effect) : Type 0 where
+  notices : length (e .notices) ≤ 2
+  orders : length (held (e .file)) ≤ mostOrders
+
+place-few : (f : File) (r : Record) (place : Found) → f .count ≤ mostOrders → Few (atPlace f r place)
+unfolding changed
+place-few f r (At i) h =
+    let o : Order = orderAt (held f) (At i) in
+    let after : Order = onOrder f r o .order in
+    record {
+      notices = omega (arith, own-few f r o .fact);
+      orders = omega (arith, ap length (held-with (supplied f r o) (set (held f) i after)), length-set (held f) i after, held-most f h);
+    }
+place-few f r Nothing h = record { notices = omega arith; orders = held-most f h }
+
+new-few : (calendar : List ℕ) (today : ℕ) (f : File) (r : Record) → length (makeRoom (held f)) < mostOrders → Few (ordered calendar today f r)
+unfolding ordered
+new-few calendar today f r h =
+    let os : List Order = makeRoom (held f) in
+    let new : List Order = newOrder calendar today r ∷ [] in
+    record {
+      notices = omega arith;
+      orders = omega (arith, ap length (held-with f (os ++ new)), length-append os new);
+    }
+
+stepped-few : (calendar : List ℕ) (today : ℕ) (f : File) (r : Record) → f .count ≤ mostOrders → (is kindNewOrder r ≡ true → length (makeRoom (held f)) < mostOrders)
+    → length (stepped calendar today f r .notices) ≤ mostOfRecord
+unfolding stepped
+stepped-few calendar today f r h room =
+    let first : Effect = cond (is kindNewOrder r) (ordered calendar today f r) (atPlace f r (named r (held f))) in
+    let few : Few first = by-test Few (is kindNewOrder r) (λ e. new-few calendar today f r (room e)) (λ e. place-few f r (named r (held f)) h) in
+    omega (arith, few .notices, few .orders, evaluated-few calendar today (first .file), length-append (first .notices) (evaluated calendar today (first .file) .notices))
+
+effect-few : (calendar : List ℕ) (today : ℕ) (file : Option File) (r : Record) → eqb (number (firstRow (rows calendar today file r))) 0 ≡ true → is kindDayMark r ≡ false → Held FileKept file
+    → length (effectOn calendar today file r .notices) ≤ mostOfRecord
+effect-few calendar today none r e m k = by-test (λ (g : Given). length (g .notices) ≤ mostOfRecord) (is kindCreate r) (λ t. omega arith) (λ t. omega arith)
+effect-few calendar today (some f) r e m k =
+    let P : Given → Type 0 = (λ g. length (g .notices) ≤ mostOfRecord) in
+    by-test P (is kindRetire r) (λ t. omega arith) (λ t.
+    by-test P (is kindDayMark r) (λ t. absurd (true≢false (sym t ∙ m))) (λ t.
+    stepped-few calendar today f r (k .tidy .few) (λ new. accepted-room calendar today f r (k .tidy .few) e new)))
+
+pub step-few : StepFew
+unfolding step
+step-few calendar s r formed m k =
+    by-test (λ (g : Given). length (g .notices) ≤ mostOfRecord) (eqb (number (firstRow (rows calendar (s .today) (s .file) r))) 0)
+    (λ e. effect-few calendar (s .today) (s .file) r e m k)
+    (λ e. omega arith)

@@ -1,0 +1,121 @@
+-- What an accepted record says: the fields that its kind gives it, if it is well formed, and that no row of the table of refusals held.
+-- Assumes nothing.
+use Prim.Native.Nat.{ℕ, _+_}
+use mathlib.Core.Path.{_≡_, refl, sym, subst, _∙_}
+use mathlib.Core.List.{List, [], _∷_}
+use mathlib.Core.Option.{Option}
+use mathlib.Core.Bool.{Bool, true, false, cond, not, _&&_, _||_, or-false, false≢true}
+use lib.Dec.{eqb}
+use borrow.Author.Tests.{eqb-true}
+use Rattle.lists.specs.Search.{anyOf, countOf, Each}
+use Rattle.lists.proofs.TestLaws.{pass-each}
+use Rattle.days.specs.Days.{noDay, isDay, switchDate}
+use Rattle.records.specs.declared.Record.{Record}
+use Rattle.records.specs.Records.{kindCreate, kindRetire, kindNewOrder, kindScheduled, kindPermit, kindRead, kindCancel, kindDayMark, moveIn, standardSwitch, aReference, aPremise, aRetailer, aRetailerOrNone, anOrderKind, orderDay, unused, wellFormed}
+use Rattle.premise.specs.declared.Order.{Order}
+use Rattle.premise.specs.declared.File.{File}
+use Rattle.premise.specs.Orders.{mostOrders, inReview, permitPending, scheduled, isOpen, hasStatus, hasKind}
+use Rattle.premise.specs.Steps.{is, requestedDay, named, orderAt, taken}
+use Rattle.premise.specs.FirstIn.{notFirstIn}
+use Rattle.premise.specs.Refusals.{Row, number, firstRow, premiseRows, orderRows, rows, isHeld, ordersOf, isNothing, needsPremise, namesOrder, limited, outOfRange}
+
+-- ---- a well-formed record of a kind
+-- a record with its kind written in it: the tests on the kind then compute
+abbrev ofKind : ℕ → Record → Record
+ofKind kind r = record { kind = kind; detail = r .detail; day = r .day; reference = r .reference; premise = r .premise; retailer = r .retailer }
+
+-- what its fields hold, each by its test
+pub record Fits (details days references premises retailers : ℕ → Bool) (r : Record) : Type 0 where
+  pub detail : details (r .detail) ≡ true
+  pub day : days (r .day) ≡ true
+  pub reference : references (r .reference) ≡ true
+  pub premise : premises (r .premise) ≡ true
+  pub retailer : retailers (r .retailer) ≡ true
+
+fields : (details days references premises retailers : ℕ → Bool) (r : Record)
+    → (details (r .detail) && days (r .day) && references (r .reference) && premises (r .premise) && retailers (r .retailer)) ≡ true
+    → Fits details days references premises retailers r
+fields details days references premises retailers r h =
+    let k = pass-each (details (r .detail)) (days (r .day) ∷ references (r .reference) ∷ premises (r .premise) ∷ retailers (r .retailer) ∷ []) h in
+    record { detail = k .0; day = k .1 .0; reference = k .1 .1 .0; premise = k .1 .1 .1 .0; retailer = k .1 .1 .1 .1 .0 }
+
+module _ (r : Record) (w : wellFormed r ≡ true) where
+  formed : (kind : ℕ) → is kind r ≡ true → wellFormed (ofKind kind r) ≡ true
+  formed kind e = subst (λ (k : ℕ). wellFormed (ofKind k r) ≡ true) (eqb-true (r .kind) kind e) w
+
+  pub create-fits : is kindCreate r ≡ true → Fits unused isDay unused aPremise aRetailerOrNone r
+  unfolding wellFormed
+  create-fits e = fields unused isDay unused aPremise aRetailerOrNone r (simp or-false at (formed kindCreate e))
+
+  pub order-fits : is kindNewOrder r ≡ true → Fits anOrderKind (orderDay (r .detail)) aReference aPremise aRetailer r
+  unfolding wellFormed
+  order-fits e = fields anOrderKind (orderDay (r .detail)) aReference aPremise aRetailer r (simp or-false at (formed kindNewOrder e))
+
+  pub scheduled-fits : is kindScheduled r ≡ true → Fits unused isDay aReference aPremise unused r
+  unfolding wellFormed
+  scheduled-fits e = fields unused isDay aReference aPremise unused r (simp or-false at (formed kindScheduled e))
+
+  pub read-fits : is kindRead r ≡ true → Fits unused isDay aReference aPremise unused r
+  unfolding wellFormed
+  read-fits e = fields unused isDay aReference aPremise unused r (simp or-false at (formed kindRead e))
+
+-- ---- from which statuses kinds 5 and 7 are taken
+module _ (r : Record) (o : Order) (t : taken r o ≡ true) where
+  taken-by : (kind : ℕ) → is kind r ≡ true → taken (ofKind kind r) o ≡ true
+  taken-by kind e = subst (λ (k : ℕ). taken (ofKind k r) o ≡ true) (eqb-true (r .kind) kind e) t
+
+  pub permit-taken : is kindPermit r ≡ true → (hasKind moveIn o && hasStatus inReview o) ≡ true
+  unfolding taken
+  permit-taken e = simp or-false at (taken-by kindPermit e)
+
+  pub read-taken : is kindRead r ≡ true → (hasStatus scheduled o || hasStatus permitPending o) ≡ true
+  unfolding taken
+  read-taken e = simp or-false at (taken-by kindRead e)
+
+-- ---- no row held
+abbrev Refuses : Row → Type 0
+Refuses row = eqb (number (row .answer)) 0 ≡ false
+
+abbrev Fails : Row → Type 0
+Fails row = row .when ≡ false
+
+none-held : (rs : List Row) → Each Refuses rs → eqb (number (firstRow rs)) 0 ≡ true → Each Fails rs
+none-held [] n h = tt
+none-held (row ∷ rs) n h = go (row .when) refl h (none-held rs (n .1))
+  where
+    go : (b : Bool) → row .when ≡ b → eqb (number (cond b (row .answer) (firstRow rs))) 0 ≡ true
+        → (eqb (number (firstRow rs)) 0 ≡ true → Each Fails rs) → Each Fails (row ∷ rs)
+    go true e k ih = absurd (false≢true (sym (n .0) ∙ k))
+    go false e k ih = (e, ih k)
+
+-- the rows of the one-premise rules, by what each says
+pub record NoRow (calendar : List ℕ) (today : ℕ) (file : Option File) (r : Record) : Type 0 where
+  pub noSuchPremise : (needsPremise r && not (isHeld file)) ≡ false
+  pub premiseHeld : (is kindCreate r && isHeld file) ≡ false
+  pub orderOpen : (is kindRetire r && anyOf isOpen (ordersOf file)) ≡ false
+  pub referenceHeld : (is kindNewOrder r && not (isNothing (named r (ordersOf file)))) ≡ false
+  pub dayOutOfRange : (is kindNewOrder r && limited (r .detail) && outOfRange today (requestedDay calendar today r)) ≡ false
+  pub noSwitchDate : (is kindNewOrder r && eqb (r .detail) standardSwitch && eqb (switchDate calendar today) noDay) ≡ false
+  pub notFirst : (is kindNewOrder r && notFirstIn (r .detail) (requestedDay calendar today r) (ordersOf file)) ≡ false
+  pub stackFull : (is kindNewOrder r && eqb (countOf isOpen (ordersOf file)) mostOrders) ≡ false
+  pub noSuchOrder : (namesOrder r && (isNothing (named r (ordersOf file)) || is kindCancel r && not (eqb (r .retailer) (orderAt (ordersOf file) (named r (ordersOf file)) .retailer)))) ≡ false
+  pub statusNotTaken : (namesOrder r && not (taken r (orderAt (ordersOf file) (named r (ordersOf file))))) ≡ false
+  pub notNextDay : (is kindDayMark r && not (eqb (r .day) (today + 1))) ≡ false
+
+pub no-row : (calendar : List ℕ) (today : ℕ) (file : Option File) (r : Record) → eqb (number (firstRow (rows calendar today file r))) 0 ≡ true → NoRow calendar today file r
+unfolding premiseRows orderRows number
+no-row calendar today file r h =
+    let k = none-held (rows calendar today file r) (refl, (refl, (refl, (refl, (refl, (refl, (refl, (refl, (refl, (refl, (refl, tt))))))))))) h in
+    record {
+      noSuchPremise = k .0;
+      premiseHeld = k .1 .0;
+      orderOpen = k .1 .1 .0;
+      referenceHeld = k .1 .1 .1 .0;
+      dayOutOfRange = k .1 .1 .1 .1 .0;
+      noSwitchDate = k .1 .1 .1 .1 .1 .0;
+      notFirst = k .1 .1 .1 .1 .1 .1 .0;
+      stackFull = k .1 .1 .1 .1 .1 .1 .1 .0;
+      noSuchOrder = k .1 .1 .1 .1 .1 .1 .1 .1 .0;
+      statusNotTaken = k .1 .1 .1 .1 .1 .1 .1 .1 .1 .0;
+      notNextDay = k .1 .1 .1 .1 .1 .1 .1 .1 .1 .1 .0;
+    }

@@ -1,0 +1,136 @@
+-- What the layer above relies on about one premise, as statements; proofs/ proves each. The book opens none of the rules themselves.
+use Prim.Native.Nat.{ℕ, _+_, _*_, _≤_}
+use mathlib.Core.Path.{_≡_}
+use mathlib.Core.Logic.{_↔_}
+use mathlib.Core.List.{List, [], _∷_, _++_}
+use mathlib.Core.Option.{Option, none, some}
+use mathlib.Core.Bool.{Bool, true, false, cond}
+use lib.Dec.{eqb}
+use lib.ListN.{length}
+use Rattle.lists.specs.Search.{anyOf, Each}
+use Rattle.days.specs.Days.{lastDay}
+use Rattle.records.specs.declared.Record.{Record}
+use Rattle.records.specs.declared.Notice.{Notice}
+use Rattle.records.specs.Records.{kindCreate, kindDayMark, wellFormed}
+use Rattle.premise.specs.declared.File.{File}
+use Rattle.premise.specs.declared.Answer.{Answer}
+use Rattle.premise.specs.declared.Answer.the-variants.{Accepted, PremiseHeld, NotNextDay}
+use Rattle.premise.specs.Orders.{mostOrders, blankFile, held}
+use Rattle.premise.specs.Steps.{is}
+use Rattle.premise.specs.WellKept.{fileKept, fileBlank, FileKept}
+use Rattle.premise.specs.Refusals.{Row, number, premiseRows, rows, firstRow}
+use Rattle.premise.specs.OnePremise.{State, Given, accepted, refused, leaving, marked, step}
+
+-- a property of the file, where there is one
+abbrev pub Held : (File → Type 0) → Option File → Type 0
+Held P none = Unit {0}
+Held P (some f) = P f
+
+-- ---- well kept
+-- the test and the facts behind it say the same
+abbrev pub KeptMeans : Type 0
+KeptMeans = (f : File) → (fileKept f ≡ true) ↔ FileKept f
+
+-- zero in every field is the blank file
+abbrev pub BlankMeans : Type 0
+BlankMeans = (f : File) → (fileBlank f ≡ true) ↔ (f ≡ blankFile)
+
+-- ---- the answer
+-- the answer is that of the first row that holds
+abbrev pub AnswerIsFirstRow : Type 0
+AnswerIsFirstRow = (calendar : List ℕ) (s : State) (r : Record) → step calendar s r .answer ≡ firstRow (rows calendar (s .today) (s .file) r)
+
+-- the answer is 0 exactly where no row holds
+abbrev pub ZeroWhereNoRow : Type 0
+ZeroWhereNoRow =
+    (calendar : List ℕ) (s : State) (r : Record)
+    → (number (step calendar s r .answer) ≡ 0) ↔ (anyOf (λ (x : Row). x .when) (rows calendar (s .today) (s .file) r) ≡ false)
+
+-- a refusal changes nothing and gives no notice
+pub record Untouched (s : State) (given : Given) : Type 0 where
+  pub state : given .state ≡ s
+  pub silent : given .notices ≡ []
+
+abbrev pub RefusalChangesNothing : Type 0
+RefusalChangesNothing =
+    (calendar : List ℕ) (s : State) (r : Record) → eqb (number (step calendar s r .answer)) 0 ≡ false → Untouched s (step calendar s r)
+
+-- .. so a refusal is its answer and nothing else
+abbrev pub RefusalIs : Type 0
+RefusalIs =
+    (calendar : List ℕ) (s : State) (r : Record) → eqb (number (step calendar s r .answer)) 0 ≡ false
+    → step calendar s r ≡ refused (step calendar s r .answer) s
+
+-- of all answers only acceptance has the number 0
+abbrev pub AcceptedIsZero : Type 0
+AcceptedIsZero = (answer : Answer) → (number answer ≡ 0) ↔ (answer ≡ Accepted)
+
+-- rows 4 and 5 do not hold for a create of a premise without a file
+abbrev pub CreatePasses : Type 0
+CreatePasses = (r : Record) (more : List Row) → is kindCreate r ≡ true → firstRow (premiseRows none r ++ more) ≡ firstRow more
+
+-- for a create of a premise with a file row 5 is the first that holds, whatever rows come after it
+abbrev pub CreateHeld : Type 0
+CreateHeld = (f : File) (r : Record) (more : List Row) → is kindCreate r ≡ true → firstRow (premiseRows (some f) r ++ more) ≡ PremiseHeld
+
+-- ---- the day
+-- only a day mark changes T
+abbrev pub OnlyMarksMove : Type 0
+OnlyMarksMove = (calendar : List ℕ) (s : State) (r : Record) → is kindDayMark r ≡ false → step calendar s r .state .today ≡ s .today
+
+-- a day mark on a file or none
+abbrev pub markedOr : List ℕ → ℕ → Option File → Given
+markedOr calendar day none = accepted [] (record { today = day; file = none })
+markedOr calendar day (some f) = leaving day (marked calendar day f)
+
+-- a day mark is taken on the day after T, whatever the file, and refused with 15 on any other
+abbrev pub MarkStep : Type 0
+MarkStep =
+    (calendar : List ℕ) (s : State) (r : Record) → is kindDayMark r ≡ true
+    → step calendar s r ≡ cond (eqb (r .day) (s .today + 1)) (markedOr calendar (r .day) (s .file)) (refused NotNextDay s)
+
+-- ---- the file
+-- only a create makes a file
+abbrev pub OnlyCreateMakes : Type 0
+OnlyCreateMakes = (calendar : List ℕ) (today : ℕ) (r : Record) → is kindCreate r ≡ false → step calendar (record { today = today; file = none }) r .state .file ≡ none
+
+-- a file is of a premise and well kept
+pub record KeptFor (premise : ℕ) (f : File) : Type 0 where
+  pub number : f .premise ≡ premise
+  pub kept : FileKept f
+
+-- every step leaves a well-kept file of the same premise, or none
+abbrev pub StepKeeps : Type 0
+StepKeeps =
+    (calendar : List ℕ) (s : State) (r : Record) (premise : ℕ)
+    → s .today ≤ lastDay → wellFormed r ≡ true → (is kindDayMark r ≡ false → r .premise ≡ premise)
+    → Held (KeptFor premise) (s .file) → Held (KeptFor premise) (step calendar s r .state .file)
+
+abbrev pub MarkKeeps : Type 0
+MarkKeeps = (calendar : List ℕ) (today : ℕ) (f : File) (premise : ℕ) → KeptFor premise f → KeptFor premise (marked calendar today f .file)
+
+-- ---- the notices
+-- a notice of a premise
+abbrev pub Of : ℕ → Notice → Type 0
+Of premise n = n .premise ≡ premise
+
+-- every notice carries the premise's number
+abbrev pub StepNotices : Type 0
+StepNotices =
+    (calendar : List ℕ) (s : State) (r : Record) (premise : ℕ) → Held (λ f. f .premise ≡ premise) (s .file) → Each (Of premise) (step calendar s r .notices)
+
+abbrev pub MarkNotices : Type 0
+MarkNotices = (calendar : List ℕ) (today : ℕ) (f : File) → Each (Of (f .premise)) (marked calendar today f .notices)
+
+-- a day mark gives at most two notices for each held order
+abbrev pub MarkFew : Type 0
+MarkFew = (calendar : List ℕ) (today : ℕ) (f : File) → FileKept f → length (marked calendar today f .notices) ≤ 2 * length (held f)
+
+-- a record of kinds 1 to 9 gives at most two, and two for each order that is then held
+abbrev pub mostOfRecord : ℕ
+mostOfRecord = 2 + 2 * mostOrders
+
+abbrev pub StepFew : Type 0
+StepFew =
+    (calendar : List ℕ) (s : State) (r : Record) → wellFormed r ≡ true → is kindDayMark r ≡ false → Held FileKept (s .file)
+    → length (step calendar s r .notices) ≤ mostOfRecord

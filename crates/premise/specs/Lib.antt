@@ -1,0 +1,12 @@
+pub mod Orders
+pub mod Passes
+pub mod Steps
+pub mod Clock
+pub mod Evaluation
+pub mod FirstIn
+pub mod WellKept
+pub mod Refusals
+pub mod OnePremise
+pub mod Laws
+pub mod Promises
+pub mod Pieces

@@ -1,0 +1,57 @@
+-- What the functions of this layer promise: what they return, and what they leave in the buffer that they are lent.
+use Prim.Native.Nat.{ℕ, _+_, _*_, _≤_}
+use mathlib.Core.Path.{_≡_}
+use mathlib.Core.List.{List, _++_}
+use mathlib.Core.Option.{Option, none, some}
+use mathlib.Core.Bool.{Bool, true, false, cond}
+use lib.ListN.{length, take, drop}
+use Rattle.records.specs.declared.Notice.{Notice}
+use Rattle.records.specs.Layout.{recordLength}
+use Rattle.records.specs.Notices.{encodeAll}
+use Rattle.premise.specs.declared.File.{File}
+use Rattle.premise.specs.declared.FileOrNone.{FileOrNone}
+use Rattle.premise.specs.declared.Stepped.{Stepped}
+use Rattle.premise.specs.declared.Passed.{Passed}
+use Rattle.premise.specs.declared.Replied.{Replied}
+use Rattle.premise.specs.Orders.{blankFile}
+use Rattle.premise.specs.Passes.{Change, Effect}
+use Rattle.premise.specs.OnePremise.{Given}
+use Rattle.premise.specs.WellKept.{Tidy}
+
+-- room for some notices behind those that stand in the buffer already
+abbrev pub Room : ℕ → List Notice → List ℕ → Type 0
+Room standing notices buffer = recordLength * (standing + length notices) ≤ length buffer
+
+-- Each notice goes behind those that stand in the buffer: these stay, the new ones follow, and the rest stays.
+pub record Writes (standing : ℕ) (before after : List ℕ) (n : ℕ) (notices : List Notice) : Type 0 where
+  pub count : n ≡ standing + length notices
+  pub bytes : after ≡ take (recordLength * standing) before ++ encodeAll notices ++ drop (recordLength * (standing + length notices)) before
+
+-- a function on one order
+pub record DoneToOrder (change : Change) (standing : ℕ) (r : Stepped) (before after : List ℕ) : Type 0 where
+  pub order : r .order ≡ change .order
+  pub wrote : Writes standing before after (r .sent) (change .notices)
+
+-- a function on a file
+pub record DoneToFile (effect : Effect) (standing : ℕ) (r : Passed) (before after : List ℕ) : Type 0 where
+  pub file : r .file ≡ effect .file
+  pub wrote : Writes standing before after (r .sent) (effect .notices)
+
+-- a file or none, as the struct has it
+abbrev pub asStruct : Option File → FileOrNone
+asStruct none = record { held = false; file = blankFile }
+asStruct (some f) = record { held = true; file = f }
+
+abbrev pub asOption : FileOrNone → Option File
+asOption s = cond (s .held) (some (s .file)) none
+
+-- what is asked of a file or none
+pub record TidyOrNone (s : FileOrNone) : Type 0 where
+  pub form : s ≡ asStruct (asOption s)
+  pub tidy : s .held ≡ true → Tidy (s .file)
+
+-- a record on a file or none
+pub record Answered (given : Given) (standing : ℕ) (r : Replied) (before after : List ℕ) : Type 0 where
+  pub answer : r .answer ≡ given .answer
+  pub file : r .after ≡ asStruct (given .state .file)
+  pub wrote : Writes standing before after (r .sent) (given .notices)

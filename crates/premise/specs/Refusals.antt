@@ -1,0 +1,111 @@
+-- Document 01, "The book": the table of refusals. The rows of the one-premise rules, in its order: 4 and 5, which go by whether there is a
+-- file, and 7 to 15. Row 3 goes by the record's bytes alone (`reading`); rows 1, 2 and 6 are the book's.
+use Prim.Native.Nat.{ℕ, _+_}
+use mathlib.Core.List.{List, [], _∷_, _++_}
+use mathlib.Core.Option.{Option, none, some}
+use mathlib.Core.Bool.{Bool, true, false, cond, not, _&&_, _||_}
+use lib.Dec.{eqb, leb, ltb}
+use Rattle.lists.specs.Search.{anyOf, countOf}
+use Rattle.lists.specs.declared.Found.{Found}
+use Rattle.lists.specs.declared.Found.the-variants.{At, Nothing}
+use Rattle.days.specs.Days.{noDay, switchDate}
+use Rattle.records.specs.declared.Record.{Record}
+use Rattle.records.specs.Records.{kindCreate, kindRetire, kindNewOrder, kindScheduled, kindCancel, kindReply, kindDayMark, moveIn, moveOut, standardSwitch, selfSelectedSwitch}
+use Rattle.premise.specs.declared.Order.{Order}
+use Rattle.premise.specs.declared.File.{File}
+use Rattle.premise.specs.declared.Answer.{Answer}
+use Rattle.premise.specs.declared.Answer.the-variants.{Accepted, ShortBuffer, NotWellKept, MalformedRecord, NoSuchPremise, PremiseHeld, BookFull, OrderOpen, ReferenceHeld, DayOutOfRange, NoSwitchDate, NotFirstIn, StackFull, NoSuchOrder, StatusNotTaken, NotNextDay}
+use Rattle.premise.specs.Orders.{mostOrders, isOpen, held}
+use Rattle.premise.specs.Steps.{is, requestedDay, named, orderAt, taken}
+use Rattle.premise.specs.FirstIn.{notFirstIn}
+
+-- The number returned, for every answer.
+unfoldable pub number : Answer → ℕ
+number Accepted = 0
+number ShortBuffer = 1
+number NotWellKept = 2
+number MalformedRecord = 3
+number NoSuchPremise = 4
+number PremiseHeld = 5
+number BookFull = 6
+number OrderOpen = 7
+number ReferenceHeld = 8
+number DayOutOfRange = 9
+number NoSwitchDate = 10
+number NotFirstIn = 11
+number StackFull = 12
+number NoSuchOrder = 13
+number StatusNotTaken = 14
+number NotNextDay = 15
+
+-- a row: what is returned, and when
+pub record Row : Type 0 where
+  pub answer : Answer
+  pub when : Bool
+
+abbrev pub row : Answer → Bool → Row
+row answer when = record { answer = answer; when = when }
+
+-- the first row whose condition holds; accepted if none does
+abbrev pub firstRow : List Row → Answer
+firstRow [] = Accepted
+firstRow (r ∷ rs) = cond (r .when) (r .answer) (firstRow rs)
+
+-- Row 9: RD − T above 90 or below −270.
+abbrev pub mostAhead : ℕ
+mostAhead = 90
+
+abbrev pub mostBack : ℕ
+mostBack = 270
+
+abbrev pub outOfRange : ℕ → ℕ → Bool
+outOfRange today requested = ltb (today + mostAhead) requested || ltb (requested + mostBack) today
+
+-- On K 1, 2 and 4.
+abbrev pub limited : ℕ → Bool
+limited kind = eqb kind moveIn || eqb kind moveOut || eqb kind selfSelectedSwitch
+
+-- On 2 to 9: the kinds that need a premise. On 4 to 9: those that name an order.
+abbrev pub needsPremise : Record → Bool
+needsPremise r = leb kindRetire (r .kind) && leb (r .kind) kindReply
+
+abbrev pub namesOrder : Record → Bool
+namesOrder r = leb kindScheduled (r .kind) && leb (r .kind) kindReply
+
+abbrev pub isHeld : Option File → Bool
+isHeld none = false
+isHeld (some f) = true
+
+-- the orders of a file; none where there is no file
+abbrev pub ordersOf : Option File → List Order
+ordersOf none = []
+ordersOf (some f) = held f
+
+abbrev pub isNothing : Found → Bool
+isNothing (At i) = false
+isNothing Nothing = true
+
+-- rows 4 and 5
+unfoldable pub premiseRows : Option File → Record → List Row
+premiseRows file r =
+    row NoSuchPremise (needsPremise r && not (isHeld file))
+    ∷ row PremiseHeld (is kindCreate r && isHeld file)
+    ∷ []
+
+-- rows 7 to 15, by the file's orders
+unfoldable pub orderRows : List ℕ → ℕ → List Order → Record → List Row
+orderRows calendar today os r =
+    row OrderOpen (is kindRetire r && anyOf isOpen os)
+    ∷ row ReferenceHeld (is kindNewOrder r && not (isNothing (named r os)))
+    ∷ row DayOutOfRange (is kindNewOrder r && limited (r .detail) && outOfRange today (requestedDay calendar today r))
+    ∷ row NoSwitchDate (is kindNewOrder r && eqb (r .detail) standardSwitch && eqb (switchDate calendar today) noDay)
+    ∷ row NotFirstIn (is kindNewOrder r && notFirstIn (r .detail) (requestedDay calendar today r) os)
+    ∷ row StackFull (is kindNewOrder r && eqb (countOf isOpen os) mostOrders)
+    ∷ row NoSuchOrder (namesOrder r && (isNothing (named r os) || is kindCancel r && not (eqb (r .retailer) (orderAt os (named r os) .retailer))))
+    ∷ row StatusNotTaken (namesOrder r && not (taken r (orderAt os (named r os))))
+    ∷ row NotNextDay (is kindDayMark r && not (eqb (r .day) (today + 1)))
+    ∷ []
+
+-- the rows of the one-premise rules
+abbrev pub rows : List ℕ → ℕ → Option File → Record → List Row
+rows calendar today file r = premiseRows file r ++ orderRows calendar today (ordersOf file) r

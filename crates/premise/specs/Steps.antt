@@ -1,0 +1,158 @@
+-- Document 01, "Records": the steps of each record kind on a file, before the evaluation that ends kinds 3 to 9.
+use Prim.Native.Nat.{ℕ}
+use mathlib.Core.List.{List, [], _∷_, _++_}
+use mathlib.Core.Bool.{Bool, true, false, cond, not, _&&_, _||_}
+use lib.Dec.{eqb, leb}
+use lib.ListN.{length, set, getD, replicate}
+use Rattle.lists.specs.Search.{placeOf, withoutFirst}
+use Rattle.lists.specs.declared.Found.{Found}
+use Rattle.lists.specs.declared.Found.the-variants.{At, Nothing}
+use Rattle.days.specs.Days.{noDay, isDay, isBusinessDay, switchDate}
+use Rattle.records.specs.declared.Record.{Record}
+use Rattle.records.specs.declared.Notice.{Notice}
+use Rattle.records.specs.Notices.{tdsp}
+use Rattle.records.specs.Records.{kindScheduled, kindPermit, kindUnexecutable, kindRead, kindCancel, kindReply, moveIn, moveOut, standardSwitch, replyAccept}
+use Rattle.premise.specs.declared.Order.{Order}
+use Rattle.premise.specs.declared.File.{File}
+use Rattle.premise.specs.Orders.{mostOrders, inReview, permitPending, scheduled, cancelPending, complete, cancelled, unexecutable, hasStatus, hasKind, isOpen, isClosed, noRetailer, businessDays, calendarDays, withStatus, withScheduled, withWaited, withPending, blank, held, places, withOrders, withSupply}
+use Rattle.premise.specs.Passes.{Change, Outcome, Effect, notice, codeOrder, codeMoveOut, codeScheduled, codeCancel, codePermit, codeUnexecutable, codeReject}
+
+-- whether a record is of a kind
+abbrev pub is : ℕ → Record → Bool
+is kind r = eqb (r .kind) kind
+
+-- 1 create: new file; S is the day.
+abbrev pub newFile : Record → File
+newFile r = record { premise = r .premise; retailer = r .retailer; since = r .day; count = 0; orders = replicate mostOrders blank }
+
+-- 3 new order: for K 3 RD becomes the switch date; otherwise RD is the day.
+unfoldable pub requestedDay : List ℕ → ℕ → Record → ℕ
+requestedDay calendar today r = cond (eqb (r .detail) standardSwitch) (switchDate calendar today) (r .day)
+
+-- It starts In Review, SD none, W and told 0, N 1 if T is a business day, else 0.
+abbrev pub newOrder : List ℕ → ℕ → Record → Order
+newOrder calendar today r =
+    record {
+      reference = r .reference;
+      kind = r .detail;
+      retailer = r .retailer;
+      requested = requestedDay calendar today r;
+      scheduled = noDay;
+      status = inReview;
+      waited = businessDays (cond (isBusinessDay calendar today) 1 0);
+      pending = calendarDays 0;
+      told = 0;
+    }
+
+-- If 8 orders are held, the oldest closed one is dropped.
+unfoldable pub makeRoom : List Order → List Order
+makeRoom os = cond (eqb (length os) mostOrders) (withoutFirst isClosed os) os
+
+-- Notice 1, or 2 for a move out, both to the TDSP.
+unfoldable pub ordered : List ℕ → ℕ → File → Record → Effect
+ordered calendar today f r =
+    record {
+      file = withOrders f (makeRoom (held f) ++ (newOrder calendar today r ∷ []));
+      notices = notice (cond (eqb (r .detail) moveOut) codeMoveOut codeOrder) (f .premise) tdsp (newOrder calendar today r) ∷ [];
+    }
+
+-- Kinds 4 to 9 name an order by its reference: its place among a file's orders.
+abbrev pub named : Record → List Order → Found
+named r os = placeOf (λ (o : Order). eqb (o .reference) (r .reference)) os
+
+-- the order found, or a blank one
+abbrev pub orderAt : List Order → Found → Order
+orderAt os (At i) = getD os i blank
+orderAt os Nothing = blank
+
+-- From which statuses, and for which K, each of these kinds is taken.
+unfoldable pub taken : Record → Order → Bool
+taken r o =
+    is kindScheduled r && (hasStatus inReview o || hasStatus permitPending o || hasStatus cancelPending o)
+    || is kindPermit r && hasKind moveIn o && hasStatus inReview o
+    || is kindUnexecutable r && isOpen o
+    || is kindRead r && (hasStatus scheduled o || hasStatus permitPending o)
+    || is kindCancel r && (hasStatus inReview o || hasStatus permitPending o || hasStatus scheduled o)
+    || is kindReply r && hasStatus cancelPending o
+
+-- 4 scheduled: Scheduled, SD the day, W 0. Notice 3 to Q.
+unfoldable pub onScheduled : File → Record → Order → Change
+onScheduled f r o =
+    record {
+      order = withPending 0 (withScheduled (r .day) (withStatus scheduled o));
+      notices = notice codeScheduled (f .premise) (o .retailer) (withPending 0 (withScheduled (r .day) (withStatus scheduled o))) ∷ [];
+    }
+
+-- 5 permit required: Permit Pending, N 0. Notice 6 to Q.
+unfoldable pub onPermit : File → Record → Order → Change
+onPermit f r o =
+    record {
+      order = withWaited 0 (withStatus permitPending o);
+      notices = notice codePermit (f .premise) (o .retailer) (withWaited 0 (withStatus permitPending o)) ∷ [];
+    }
+
+-- 6 unexecutable: Unexecutable, W 0. Notice 7 to Q; if told and R is not 0, then also to R.
+unfoldable pub onUnexecutable : File → Record → Order → Change
+onUnexecutable f r o =
+    record {
+      order = withPending 0 (withStatus unexecutable o);
+      notices =
+          notice codeUnexecutable (f .premise) (o .retailer) (withPending 0 (withStatus unexecutable o))
+          ∷ cond (eqb (o .told) 1 && not (eqb (f .retailer) noRetailer))
+          (notice codeUnexecutable (f .premise) (f .retailer) (withPending 0 (withStatus unexecutable o)) ∷ [])
+          [];
+    }
+
+-- 7 meter read. From 3: Complete, SD the day. From 2: In Review. No notice.
+unfoldable pub onRead : File → Record → Order → Change
+onRead f r o =
+    record {
+      order = cond (hasStatus scheduled o) (withScheduled (r .day) (withStatus complete o)) (withStatus inReview o);
+      notices = [];
+    }
+
+-- 7, from 3: if the day is at least S, then S is the day and R becomes Q (0 for a move out).
+unfoldable pub supplied : File → Record → Order → File
+supplied f r o =
+    cond (is kindRead r && hasStatus scheduled o && leb (f .since) (r .day))
+    (withSupply f (cond (hasKind moveOut o) noRetailer (o .retailer)) (r .day))
+    f
+
+-- 8 cancel: Cancel Pending, W 0. Notice 5 to the TDSP.
+unfoldable pub onCancel : File → Record → Order → Change
+onCancel f r o =
+    record {
+      order = withPending 0 (withStatus cancelPending o);
+      notices = notice codeCancel (f .premise) tdsp (withPending 0 (withStatus cancelPending o)) ∷ [];
+    }
+
+-- 9 cancel reply, W 0. Accept: Cancelled, notice 5 to Q. Reject: Scheduled if SD is a day, else In Review; notice 8 to Q.
+unfoldable pub onReply : File → Record → Order → Change
+onReply f r o =
+    cond (eqb (r .detail) replyAccept)
+    (record {
+      order = withPending 0 (withStatus cancelled o);
+      notices = notice codeCancel (f .premise) (o .retailer) (withPending 0 (withStatus cancelled o)) ∷ [];
+    })
+    (record {
+      order = withPending 0 (withStatus (cond (isDay (o .scheduled)) scheduled inReview) o);
+      notices = notice codeReject (f .premise) (o .retailer) (withPending 0 (withStatus (cond (isDay (o .scheduled)) scheduled inReview) o)) ∷ [];
+    })
+
+-- kinds 4 to 9 on the order that they name
+unfoldable pub onOrder : File → Record → Order → Change
+onOrder f r o =
+    cond (is kindScheduled r) (onScheduled f r o)
+    (cond (is kindPermit r) (onPermit f r o)
+    (cond (is kindUnexecutable r) (onUnexecutable f r o)
+    (cond (is kindRead r) (onRead f r o)
+    (cond (is kindCancel r) (onCancel f r o)
+    (onReply f r o)))))
+
+-- the same on the file: the order changed in its place
+unfoldable pub changed : File → Record → ℕ → Order → Effect
+changed f r i o =
+    record {
+      file = withOrders (supplied f r o) (set (held f) i (onOrder f r o .order));
+      notices = onOrder f r o .notices;
+    }

@@ -1,0 +1,100 @@
+// The premise layer: one premise, its file and its orders. Here stand its types; the rules over them stand in specs/, section by
+// section from document 01, and what the layers above may rely on is stated in specs/Laws.antt. The helper crates
+// `premise_orders`, `premise_clock`, `premise_evaluation` and `premise_steps` do in code what the rules say.
+
+// How many orders a file holds at most.
+pub const MOST_ORDERS: usize = 8;
+
+// The statuses of an order. They are numbers with names, and no enum, since a damaged book can hold any number.
+pub const IN_REVIEW: u8 = 1;
+
+pub const PERMIT_PENDING: u8 = 2;
+
+pub const SCHEDULED: u8 = 3;
+
+pub const CANCEL_PENDING: u8 = 4;
+
+pub const COMPLETE: u8 = 5;
+
+pub const CANCELLED: u8 = 6;
+
+pub const UNEXECUTABLE: u8 = 7;
+
+// A count of Retail Business Days: how long an order has waited.
+pub struct BusinessDays(pub u8);
+
+// A count of calendar days: how long an order has been in Cancel Pending. A type of its own, so that a wait in calendar days can't be
+// given business days.
+pub struct CalendarDays(pub u8);
+
+// An order.
+pub struct Order {
+    pub reference: u32,
+    pub kind: u8,
+    // the submitting retailer, for a drop the gaining one
+    pub retailer: u32,
+    pub requested: u16,
+    // the scheduled day, or no day
+    pub scheduled: u16,
+    pub status: u8,
+    pub waited: BusinessDays,
+    pub pending: CalendarDays,
+    // whether the retailer that loses the premise has been told, 0 or 1
+    pub told: u8,
+}
+
+// A premise's file. The first `count` places of `orders` hold its orders, oldest first; the others are zero.
+pub struct File {
+    pub premise: u64,
+    // its retailer, 0 where the premise is de-energized
+    pub retailer: u32,
+    // the day since which the retailer holds
+    pub since: u16,
+    pub count: usize,
+    pub orders: [Order; 8],
+}
+
+// A file or none: where there is none, `file` is zero in every field.
+pub struct FileOrNone {
+    pub held: bool,
+    pub file: File,
+}
+
+// What a call answers: a name for each row of document 01's table of refusals, and one for acceptance.
+pub enum Answer {
+    Accepted,
+    ShortBuffer,
+    NotWellKept,
+    MalformedRecord,
+    NoSuchPremise,
+    PremiseHeld,
+    BookFull,
+    OrderOpen,
+    ReferenceHeld,
+    DayOutOfRange,
+    NoSwitchDate,
+    NotFirstIn,
+    StackFull,
+    NoSuchOrder,
+    StatusNotTaken,
+    NotNextDay,
+}
+
+// An order after a step, and how many notices stand in the buffer then.
+pub struct Stepped {
+    pub order: Order,
+    pub sent: usize,
+}
+
+// A file after a pass or a day mark, and how many notices stand in the buffer then.
+pub struct Passed {
+    pub file: File,
+    pub sent: usize,
+}
+
+// What a record on a file or none gives: the answer, how many notices stand in the buffer, and the file or none afterwards.
+pub struct Replied {
+    pub answer: Answer,
+    pub sent: usize,
+    pub after: FileOrNone,
+}

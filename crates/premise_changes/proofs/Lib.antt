@@ -1,0 +1,4 @@
+pub mod Files
+pub mod Search
+pub mod Done
+pub mod Cases

@@ -1,0 +1,4 @@
+pub mod Files
+pub mod Turns
+pub mod Then
+pub mod Quiet

@@ -1,0 +1,5 @@
+pub mod Fields
+pub mod Notices
+pub mod Emits
+pub mod Records
+pub mod Copy

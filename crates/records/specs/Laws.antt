@@ -1,0 +1,95 @@
+-- What the layers above may rely on about records, as statements; proofs/Records.antt proves them.
+use Prim.Native.Nat.{ℕ, _≤_, _<_}
+use mathlib.Core.Path.{_≡_}
+use mathlib.Core.List.{List, [], _∷_}
+use mathlib.Core.Bool.{true}
+use lib.ListN.{length, getD}
+use Rattle.days.specs.Days.{lastDay}
+use Rattle.records.specs.declared.Record.{Record}
+use Rattle.records.specs.declared.Reading.{Reading}
+use Rattle.records.specs.declared.Reading.the-variants.{Malformed, Says}
+use Rattle.records.specs.Layout.{recordLength, zeroField, fieldOf}
+use Rattle.records.specs.Records.{kindNewOrder, kindDayMark, standardSwitch, massTransitionDrop, replyReject, lastRetailer, wellFormed, fieldsOf}
+
+-- What a field holds, as facts; specs/Records.antt has the tests.
+abbrev pub Unused : ℕ → Type 0
+Unused n = n ≡ 0
+
+abbrev pub ADay : ℕ → Type 0
+ADay n = n ≤ lastDay
+
+-- a reference or a premise
+abbrev pub Given : ℕ → Type 0
+Given n = 1 ≤ n
+
+pub record UpTo (last n : ℕ) : Type 0 where
+  pub given : 1 ≤ n
+  pub within : n ≤ last
+
+abbrev pub ARetailer : ℕ → Type 0
+ARetailer = UpTo lastRetailer
+
+abbrev pub ARetailerOrNone : ℕ → Type 0
+ARetailerOrNone n = n ≤ lastRetailer
+
+-- a new order's day: a day, and 0 for a standard switch
+pub record OrderDay (kind day : ℕ) : Type 0 where
+  pub within : day ≤ lastDay
+  pub standard : kind ≡ standardSwitch → day ≡ 0
+
+-- the fields beside the kind hold so
+pub record Fields (Detail Day Reference Premise Retailer : ℕ → Type 0) (r : Record) : Type 0 where
+  pub detail : Detail (r .detail)
+  pub day : Day (r .day)
+  pub reference : Reference (r .reference)
+  pub premise : Premise (r .premise)
+  pub retailer : Retailer (r .retailer)
+
+-- the facts for the kinds from 0, which is none, to 10
+abbrev pub fieldsByKind : Record → List (Type 0)
+fieldsByKind r =
+    ⊥
+    ∷ Fields Unused ADay Unused Given ARetailerOrNone r
+    ∷ Fields Unused Unused Unused Given Unused r
+    ∷ Fields (UpTo massTransitionDrop) (OrderDay (r .detail)) Given Given ARetailer r
+    ∷ Fields Unused ADay Given Given Unused r
+    ∷ Fields Unused Unused Given Given Unused r
+    ∷ Fields Unused Unused Given Given Unused r
+    ∷ Fields Unused ADay Given Given Unused r
+    ∷ Fields Unused Unused Given Given ARetailer r
+    ∷ Fields (UpTo replyReject) Unused Given Given Unused r
+    ∷ Fields Unused ADay Unused Unused Unused r
+    ∷ []
+
+-- What a well-formed record of a kind holds: at a numeral it computes to that kind's `Fields`.
+abbrev pub FieldsOfKind : ℕ → Record → Type 0
+FieldsOfKind kind r = getD (fieldsByKind r) kind ⊥
+
+-- what a well-formed record of any kind holds
+pub record Formed (r : Record) : Type 0 where
+  pub kind : UpTo kindDayMark (r .kind)
+  pub day : r .day ≤ lastDay
+  pub retailer : r .retailer ≤ lastRetailer
+  pub premise : r .kind < kindDayMark → 1 ≤ r .premise
+  pub reference : kindNewOrder ≤ r .kind → r .kind < kindDayMark → 1 ≤ r .reference
+
+-- each of a record's numbers goes into its field
+pub record InWidth (r : Record) : Type 0 where
+  pub kind : r .kind < 256
+  pub detail : r .detail < 256
+  pub day : r .day < 65536
+  pub reference : r .reference < 4294967296
+  pub premise : r .premise < 18446744073709551616
+  pub retailer : r .retailer < 4294967296
+
+-- what is known of bytes that say a record
+pub record Said (bytes : List ℕ) (r : Record) : Type 0 where
+  pub long : length bytes ≡ recordLength
+  pub zeros : fieldOf zeroField bytes ≡ 0
+  pub fields : r ≡ fieldsOf bytes
+  pub formed : wellFormed r ≡ true
+
+-- of a reading: nothing where the bytes are malformed
+abbrev pub SaidIn : List ℕ → Reading → Type 0
+SaidIn bytes Malformed = Unit {0}
+SaidIn bytes (Says r) = Said bytes r

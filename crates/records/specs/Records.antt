@@ -1,0 +1,130 @@
+-- Document 01, "Records": what the bytes of a record say, and row 3, which they decide alone.
+use Prim.Native.Nat.{ℕ}
+use mathlib.Core.List.{List}
+use mathlib.Core.Bool.{Bool, cond, not, _&&_, _||_}
+use lib.Dec.{eqb, leb}
+use lib.ListN.{length}
+use Rattle.days.specs.Days.{isDay}
+use Rattle.records.specs.declared.Record.{Record}
+use Rattle.records.specs.declared.Reading.{Reading}
+use Rattle.records.specs.declared.Reading.the-variants.{Malformed, Says}
+use Rattle.records.specs.Layout.{recordLength, kindField, detailField, dayField, referenceField, premiseField, retailerField, zeroField, fieldOf}
+
+-- The record kinds, 1 to 10.
+abbrev pub kindCreate : ℕ
+kindCreate = 1
+
+abbrev pub kindRetire : ℕ
+kindRetire = 2
+
+abbrev pub kindNewOrder : ℕ
+kindNewOrder = 3
+
+abbrev pub kindScheduled : ℕ
+kindScheduled = 4
+
+abbrev pub kindPermit : ℕ
+kindPermit = 5
+
+abbrev pub kindUnexecutable : ℕ
+kindUnexecutable = 6
+
+abbrev pub kindRead : ℕ
+kindRead = 7
+
+abbrev pub kindCancel : ℕ
+kindCancel = 8
+
+abbrev pub kindReply : ℕ
+kindReply = 9
+
+abbrev pub kindDayMark : ℕ
+kindDayMark = 10
+
+-- The order kinds K: 1 move in, 2 move out, 3 standard switch, 4 self-selected switch, 5 mass transition drop.
+abbrev pub moveIn : ℕ
+moveIn = 1
+
+abbrev pub moveOut : ℕ
+moveOut = 2
+
+abbrev pub standardSwitch : ℕ
+standardSwitch = 3
+
+abbrev pub selfSelectedSwitch : ℕ
+selfSelectedSwitch = 4
+
+abbrev pub massTransitionDrop : ℕ
+massTransitionDrop = 5
+
+-- A cancel reply's detail: 1 accept, 2 reject.
+abbrev pub replyAccept : ℕ
+replyAccept = 1
+
+abbrev pub replyReject : ℕ
+replyReject = 2
+
+-- Retailers are 1 to 999,999,999.
+abbrev pub lastRetailer : ℕ
+lastRetailer = 999999999
+
+-- What a field may hold: nothing, where the record's kind does not use it; else a value in range.
+abbrev pub unused : ℕ → Bool
+unused n = eqb n 0
+
+abbrev pub aReference : ℕ → Bool
+aReference n = not (eqb n 0)
+
+abbrev pub aPremise : ℕ → Bool
+aPremise n = not (eqb n 0)
+
+abbrev pub aRetailer : ℕ → Bool
+aRetailer n = leb 1 n && leb n lastRetailer
+
+abbrev pub aRetailerOrNone : ℕ → Bool
+aRetailerOrNone n = leb n lastRetailer
+
+abbrev pub anOrderKind : ℕ → Bool
+anOrderKind n = leb moveIn n && leb n massTransitionDrop
+
+abbrev pub aReply : ℕ → Bool
+aReply n = leb replyAccept n && leb n replyReject
+
+-- a record of a kind, with what its detail, day, reference, premise and retailer may hold
+abbrev pub fits : ℕ → (ℕ → Bool) → (ℕ → Bool) → (ℕ → Bool) → (ℕ → Bool) → (ℕ → Bool) → Record → Bool
+fits kind detail day reference premise retailer r =
+    eqb (r .kind) kind && detail (r .detail) && day (r .day) && reference (r .reference) && premise (r .premise) && retailer (r .retailer)
+
+-- For K 3 the day must be 0; otherwise it is a day.
+abbrev pub orderDay : ℕ → ℕ → Bool
+orderDay kind = cond (eqb kind standardSwitch) unused isDay
+
+-- Kind, detail and fields in range, unused fields zero: the ten kinds with the fields that document 01 gives each in brackets.
+unfoldable pub wellFormed : Record → Bool
+wellFormed r =
+    fits kindCreate unused isDay unused aPremise aRetailerOrNone r
+    || fits kindRetire unused unused unused aPremise unused r
+    || fits kindNewOrder anOrderKind (orderDay (r .detail)) aReference aPremise aRetailer r
+    || fits kindScheduled unused isDay aReference aPremise unused r
+    || fits kindPermit unused unused aReference aPremise unused r
+    || fits kindUnexecutable unused unused aReference aPremise unused r
+    || fits kindRead unused isDay aReference aPremise unused r
+    || fits kindCancel unused unused aReference aPremise aRetailer r
+    || fits kindReply aReply unused aReference aPremise unused r
+    || fits kindDayMark unused isDay unused unused unused r
+
+-- the fields of some bytes
+abbrev pub fieldsOf : List ℕ → Record
+fieldsOf bytes =
+    record {
+      kind = fieldOf kindField bytes;
+      detail = fieldOf detailField bytes;
+      day = fieldOf dayField bytes;
+      reference = fieldOf referenceField bytes;
+      premise = fieldOf premiseField bytes;
+      retailer = fieldOf retailerField bytes;
+    }
+
+-- Row 3, decided by a record's bytes alone: length not 24, kind, detail or field out of range, unused field not zero.
+unfoldable pub reading : List ℕ → Reading
+reading bytes = cond (eqb (length bytes) recordLength && eqb (fieldOf zeroField bytes) 0 && wellFormed (fieldsOf bytes)) (Says (fieldsOf bytes)) Malformed

@@ -46,7 +46,7 @@ are-blank (suc n) = rw (blank-means blankFile .1 refl) (are-blank n)
 -- ---- a book by its day and its files
 pub holds-its-files : HoldsItsFiles
 unfolding bookOf
-holds-its-files today fs = take-at fs (replicate (mostFiles - length fs) blankFile) (length fs) refl
+holds-its-files today fs = take-at fs _ (length fs) refl
 
 whole : (b : Book) → b .count ≤ mostFiles → length (b .files) ≡ mostFiles → allOf fileBlank (drop (b .count) (b .files)) ≡ true → b ≡ bookOf (b .today) (filesOf b)
 unfolding bookOf

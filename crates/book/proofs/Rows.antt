@@ -115,6 +115,11 @@ module _ (calendar : List ℕ) (b : Book) where
       exact-insert (premiseRows file r) (orderRows calendar (b .today) (ordersOf file) r) BookFull (is kindCreate r && eqb (length (filesOf b)) mostFiles) full-refuses exact
 
 module _ (calendar : List ℕ) (b : Book) (bytes lent : List ℕ) where
+  -- with a long enough buffer and a well-kept book the first row is one of the record's
+  pub record-decides : noticeBytes ≤ length lent → bookKept b ≡ true → firstRow (callRows calendar b bytes lent) ≡ firstRow (recordRows calendar b (reading bytes))
+  unfolding callRows
+  record-decides h k = rw (le-ltb (length lent) noticeBytes h, k)
+
   pub call-exact : Exact (callRows calendar b bytes lent)
   unfolding callRows
   call-exact =
@@ -135,8 +140,3 @@ module _ (calendar : List ℕ) (b : Book) (bytes lent : List ℕ) where
         kept = not-false (bookKept b) (or-left unkept rest u);
         none = or-right unkept rest u;
       }
-
-  -- with a long enough buffer and a well-kept book the first row is one of the record's
-  pub record-decides : noticeBytes ≤ length lent → bookKept b ≡ true → firstRow (callRows calendar b bytes lent) ≡ firstRow (recordRows calendar b (reading bytes))
-  unfolding callRows
-  record-decides h k = rw (le-ltb (length lent) noticeBytes h, k)

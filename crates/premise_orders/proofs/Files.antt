@@ -30,15 +30,15 @@ pub places-more : (os : List Order) (o : Order) → length os < mostOrders → s
 unfolding places
 places-more os o h =
     let k : length (os ++ (o ∷ [])) ≡ length os + 1 = length-append os (o ∷ []) in
-    let e : 8 - length os ≡ suc (8 - length (os ++ (o ∷ []))) = omega arith in
-    rw e (set-append-seam os blank (replicate (8 - length (os ++ (o ∷ []))) blank) o ∙ sym (append-snoc os o (replicate (8 - length (os ++ (o ∷ []))) blank)))
+    let e : mostOrders - length os ≡ suc (mostOrders - length (os ++ (o ∷ []))) = omega arith in
+    rw e (set-append-seam os blank (replicate (mostOrders - length (os ++ (o ∷ []))) blank) o ∙ sym (append-snoc os o (replicate (mostOrders - length (os ++ (o ∷ []))) blank)))
 
 -- an order replaced in its place
 pub places-set : (os : List Order) (i : ℕ) (o : Order) → i < length os → set (places os) i o ≡ places (set os i o)
 unfolding places
 places-set os i o h =
-    set-append-left os (replicate (8 - length os) blank) i o h
-    ∙ ap (λ (m : ℕ). set os i o ++ replicate (8 - m) blank) (sym (length-set os i o))
+    set-append-left os (replicate (mostOrders - length os) blank) i o h
+    ∙ ap (λ (m : ℕ). set os i o ++ replicate (mostOrders - m) blank) (sym (length-set os i o))
 
 -- eight orders fill the places
 pub places-full : (os : List Order) → length os ≡ mostOrders → places os ≡ os
@@ -49,7 +49,7 @@ places-full os h = rw h (append-nil os)
 module _ (f : File) (os : List Order) where
   pub held-with : held (withOrders f os) ≡ os
   unfolding places
-  held-with = take-append-seam os (replicate (8 - length os) blank)
+  held-with = take-append-seam os (replicate (mostOrders - length os) blank)
 
   pub tidy-with : length os ≤ mostOrders → Tidy (withOrders f os)
   tidy-with h = record { few = h; whole = ap places (sym held-with) }
@@ -64,7 +64,7 @@ module _ (f : File) (tidy : Tidy f) where
   pub length-held : length (held f) ≡ f .count
   length-held =
       let m = length-take (f .count) (f .orders) in
-      let s : length (held f) ≤ 8 = omega (arith, tidy .few) in
+      let s : length (held f) ≤ mostOrders = omega (arith, tidy .few) in
       let e = ap length (tidy .whole) ∙ length-places (held f) s in
       omega arith
 

@@ -2,9 +2,9 @@
 ghost use mathlib.Core.Path.{_≡_};
 ghost use mathlib.Core.List.{[], _∷_, _++_};
 ghost use mathlib.Core.Bool.{true, false, _&&_};
-ghost use Prim.Native.Nat.{_+_, _*_, _≤_, _<_};
+ghost use Prim.Native.Nat.{_<_};
 ghost use lib.Dec.{eqb, leb};
-ghost use lib.ListN.{length, set, replicate};
+ghost use lib.ListN.{set, replicate};
 ghost use Rattle.lists.specs.Search.{anyOf, countOf, placeOf};
 ghost use Rattle.lists.specs.Shift.{removed};
 ghost use Rattle.records.specs.Records.{standardSwitch};

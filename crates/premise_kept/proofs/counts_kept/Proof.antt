@@ -1,0 +1,24 @@
+-- `premise_kept::counts_kept` meets its contract: at each return the tests that led there decide. Assumes nothing.
+use mathlib.Core.Path.{sym, _∙_}
+use mathlib.Core.Bool.{and-false}
+use borrow.Author.Needs.{needs}
+use borrow.Author.Tests.{le-leb, lt-leb, not-true, not-false}
+use Rattle.premise_kept.proofs.counts_kept.Statement.{statement}
+use Rattle.premise_kept.proofs.counts_kept.Tie as tie
+
+returns : tie.Need-returns
+returns c = simp (lt-leb _ _ (c .if1 .taken))
+
+pending-fits-requires : tie.Need-pending-fits-requires
+pending-fits-requires c κs = search needs
+
+returns-2 : tie.Need-returns-2
+returns-2 c = simp (sym (c .before .pending-fits .ensures) ∙ not-true _ (c .if2 .taken), and-false)
+
+returns-3 : tie.Need-returns-3
+returns-3 c =
+    let e2 = c .before in
+    simp (le-leb _ _ (e2 .before .before .if1 .left), sym (e2 .before .pending-fits .ensures) ∙ not-false _ (e2 .if2 .left))
+
+pub counts-kept-spec : {M : Type 1} → statement M
+counts-kept-spec = tie.close (tie.spec returns pending-fits-requires returns-2 returns-3)

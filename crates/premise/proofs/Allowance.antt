@@ -17,7 +17,8 @@ use Rattle.premise.specs.Passes.{Change, passFrom}
 use Rattle.premise.specs.Clock.{toCancelPending, ticked, reviewed, permitAwaited, cancelAwaited}
 use Rattle.premise.specs.Evaluation.{settled, dropped, lapsed, told, contends, displaced, overtaken, due}
 use Rattle.premise.specs.WellKept.{dayFits, orderKept}
-use Rattle.premise.proofs.Tests.{by-test, must, and-left, and-right, by-either}
+use Rattle.lists.proofs.TestLaws.{by-test, and-left, and-right}
+use Rattle.premise.proofs.Tests.{must, by-either}
 
 abbrev pub total : (Order → ℕ) → List Order → ℕ
 total most [] = 0
@@ -108,19 +109,19 @@ done o = 0
 
 pub settling-most : (o : Order) → atSettling o ≤ 2
 settling-most o =
-    by-test (λ (n : ℕ). n ≤ 2) (hasStatus cancelled o)
+    by-test (λ (n : ℕ). n ≤ 2) (hasStatus cancelled o) _ _
     (λ e. omega arith)
-    (λ e. by-test (λ (n : ℕ). n ≤ 2) (hasStatus cancelPending o && not (isDay (o .scheduled))) (λ e. omega arith) (λ e. omega arith))
+    (λ e. by-test (λ (n : ℕ). n ≤ 2) (hasStatus cancelPending o && not (isDay (o .scheduled))) _ _ (λ e. omega arith) (λ e. omega arith))
 
 -- Scheduled and Permit Pending orders may send two
 two-left : (o : Order) → (hasStatus scheduled o || hasStatus permitPending o) ≡ true → atSettling o ≡ 2
 two-left o e = by-either (hasStatus scheduled o) (hasStatus permitPending o) e (λ h. rw (eqb-true (o .status) scheduled h)) (λ h. rw (eqb-true (o .status) permitPending h))
 
 dropping-settling : (o : Order) → atDropping o ≤ atSettling o
-dropping-settling o = by-test (λ (n : ℕ). n ≤ atSettling o) (hasStatus scheduled o || hasStatus permitPending o) (λ e. omega (arith, two-left o e)) (λ e. omega arith)
+dropping-settling o = by-test (λ (n : ℕ). n ≤ atSettling o) (hasStatus scheduled o || hasStatus permitPending o) _ _ (λ e. omega (arith, two-left o e)) (λ e. omega arith)
 
 telling-dropping : (o : Order) → atTelling o ≤ atDropping o
-telling-dropping o = by-test (λ (n : ℕ). n ≤ atDropping o) (hasStatus scheduled o) (λ e. rw e (omega arith)) (λ e. omega arith)
+telling-dropping o = by-test (λ (n : ℕ). n ≤ atDropping o) (hasStatus scheduled o) _ _ (λ e. rw e (omega arith)) (λ e. omega arith)
 
 -- ---- the clock, whatever its waits are
 -- SD none in statuses 1 and 2
@@ -146,11 +147,11 @@ cancel-few premise o = search (few, sends-either, sends-none, sends-two, settlin
 pub ticked-few : (business : Bool) (today premise : ℕ) (o : Order) → orderKept o ≡ true → Sends atSettling 2 (ticked business today premise o)
 unfolding ticked
 ticked-few business today premise o h =
-    by-test (Sends atSettling 2) (hasStatus inReview o)
+    by-test (Sends atSettling 2) (hasStatus inReview o) _ _
     (λ e. reviewed-few business today premise o (no-day o h (rw e refl)))
-    (λ n. by-test (Sends atSettling 2) (hasStatus permitPending o)
+    (λ n. by-test (Sends atSettling 2) (hasStatus permitPending o) _ _
     (λ e. permit-few business today premise o (no-day o h (rw (n, e) refl)))
-    (λ m. by-test (Sends atSettling 2) (hasStatus cancelPending o) (λ e. cancel-few premise o) (λ e. sends-none (settling-most o))))
+    (λ m. by-test (Sends atSettling 2) (hasStatus cancelPending o) _ _ (λ e. cancel-few premise o) (λ e. sends-none (settling-most o))))
 
 -- ---- the four passes, one order each
 contends-two : (calendar : List ℕ) (today : ℕ) (o : Order) (also : Bool) → (contends calendar today o && also) ≡ true → atSettling o ≡ 2

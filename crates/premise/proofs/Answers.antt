@@ -17,7 +17,7 @@ use Rattle.premise.specs.Steps.{is}
 use Rattle.premise.specs.Refusals.{Row, number, firstRow, rows, premiseRows, orderRows}
 use Rattle.premise.specs.OnePremise.{State, Given, effectOn, decide, refused, step}
 use Rattle.premise.specs.Laws.{AnswerIsFirstRow, ZeroWhereNoRow, RefusalIs, RefusalChangesNothing, CreatePasses, OnlyMarksMove, MarkStep, OnlyCreateMakes, markedOr}
-use Rattle.premise.proofs.Tests.{by-test, and-left, and-right}
+use Rattle.lists.proofs.TestLaws.{by-test, and-left, and-right}
 
 -- ---- any list of rows
 pub first-row-skips : (a : List Row) (x : Row) (b : List Row) → x .when ≡ false → firstRow (a ++ x ∷ b) ≡ firstRow (a ++ b)
@@ -71,15 +71,15 @@ decided NotNextDay done s h = refl
 
 -- a property of what is done and of a refusal is one of what is decided
 pub either : (P : Given → Type 0) (a : Answer) {done : Given} (s : State) → P done → P (refused a s) → P (decide a done s)
-either P a s h k = by-test P (eqb (number a) 0) (λ e. h) (λ e. k)
+either P a s h k = by-test P (eqb (number a) 0) _ _ (λ e. h) (λ e. k)
 
 Accepts : Given → Type 0
 Accepts g = g .answer ≡ Accepted
 
 effect-accepted : (calendar : List ℕ) (today : ℕ) (file : Option File) (r : Record) → effectOn calendar today file r .answer ≡ Accepted
 unfolding Accepts
-effect-accepted calendar today none r = by-test Accepts (is kindCreate r) (λ e. refl) (λ e. refl)
-effect-accepted calendar today (some f) r = by-test Accepts (is kindRetire r) (λ e. refl) (λ e. by-test Accepts (is kindDayMark r) (λ e. refl) (λ e. refl))
+effect-accepted calendar today none r = by-test Accepts (is kindCreate r) _ _ (λ e. refl) (λ e. refl)
+effect-accepted calendar today (some f) r = by-test Accepts (is kindRetire r) _ _ (λ e. refl) (λ e. by-test Accepts (is kindDayMark r) _ _ (λ e. refl) (λ e. refl))
 
 pub answer-is-first-row : AnswerIsFirstRow
 unfolding step
@@ -107,8 +107,8 @@ create-passes r more h = rw (eqb-true (r .kind) kindCreate h)
 
 -- what is done by a record that is no day mark is done on the day that it was
 effect-stays : (calendar : List ℕ) (today : ℕ) (file : Option File) (r : Record) → is kindDayMark r ≡ false → effectOn calendar today file r .state .today ≡ today
-effect-stays calendar today none r h = by-test (λ (g : Given). g .state .today ≡ today) (is kindCreate r) (λ e. refl) (λ e. rw h)
-effect-stays calendar today (some f) r h = by-test (λ (g : Given). g .state .today ≡ today) (is kindRetire r) (λ e. refl) (λ e. rw h)
+effect-stays calendar today none r h = by-test (λ (g : Given). g .state .today ≡ today) (is kindCreate r) _ _ (λ e. refl) (λ e. rw h)
+effect-stays calendar today (some f) r h = by-test (λ (g : Given). g .state .today ≡ today) (is kindRetire r) _ _ (λ e. refl) (λ e. rw h)
 
 pub only-marks-move : OnlyMarksMove
 unfolding step

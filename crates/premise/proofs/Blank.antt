@@ -12,7 +12,8 @@ use Rattle.premise.specs.declared.Order.{Order}
 use Rattle.premise.specs.Orders.{mostOrders, blank, blankFile}
 use Rattle.premise.specs.WellKept.{isBlank, fileBlank}
 use Rattle.premise.specs.Laws.{BlankMeans}
-use Rattle.premise.proofs.Tests.{must, and-left, and-right}
+use Rattle.lists.proofs.TestLaws.{and-left, and-right}
+use Rattle.premise.proofs.Tests.{must}
 
 -- a number that a test holds against another, where the test passes
 equal : (n m : ℕ) (test : Bool) → (eqb n m ≡ false → test ≡ false) → test ≡ true → n ≡ m

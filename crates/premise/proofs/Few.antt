@@ -1,13 +1,12 @@
 -- A day mark gives at most two notices for each held order, and a record at most two more than that. Assumes nothing.
-use Prim.Native.Nat.{ℕ, _*_, _-_, _≤_, _<_}
+use Prim.Native.Nat.{ℕ, _*_, _≤_, _<_}
 use mathlib.Core.Path.{_≡_, refl, sym, ap, _∙_}
 use mathlib.Core.List.{List, [], _∷_, _++_}
 use mathlib.Core.Option.{Option, none, some}
 use mathlib.Core.Bool.{true, false, cond, true≢false}
 use native.Mathlib.Omega.{arith}
 use lib.Dec.{eqb}
-use lib.ListN.{length, set, replicate, length-append, length-set}
-use lib.Seq.{take-at}
+use lib.ListN.{length, set, length-append, length-set}
 use Rattle.lists.specs.declared.Found.{Found}
 use Rattle.lists.specs.declared.Found.the-variants.{At, Nothing}
 use Rattle.days.specs.Days.{isBusinessDay}
@@ -15,7 +14,7 @@ use Rattle.records.specs.declared.Record.{Record}
 use Rattle.records.specs.Records.{kindCreate, kindRetire, kindNewOrder, kindDayMark}
 use Rattle.premise.specs.declared.Order.{Order}
 use Rattle.premise.specs.declared.File.{File}
-use Rattle.premise.specs.Orders.{mostOrders, blank, held, places, withOrders}
+use Rattle.premise.specs.Orders.{mostOrders, held, places, withOrders}
 use Rattle.premise.specs.Passes.{Outcome, Effect}
 use Rattle.premise.specs.Steps.{is, makeRoom, newOrder, named, orderAt, supplied, ordered, changed, onOrder, onScheduled, onPermit, onUnexecutable, onRead, onCancel, onReply}
 use Rattle.premise.specs.Clock.{clock, ticked}
@@ -24,18 +23,14 @@ use Rattle.premise.specs.WellKept.{orderKept, FileKept}
 use Rattle.premise.specs.Refusals.{number, firstRow, rows}
 use Rattle.premise.specs.OnePremise.{Given, effectOn, atPlace, marked, stepped, step}
 use Rattle.premise.specs.Laws.{Held, mostOfRecord, MarkFew, StepFew}
-use Rattle.premise.proofs.Tests.{by-test}
+use Rattle.lists.proofs.TestLaws.{by-test}
+use Rattle.premise.proofs.KeptFiles.{held-with}
 use Rattle.premise.proofs.Room.{held-most, accepted-room}
 use Rattle.premise.proofs.Allowance.{Sends, few, sends-two, sends-either, total, pass-few, each-few, atMark, atSettling, atDropping, atTelling, done, settling-most, ticked-few, settled-few, dropped-few, lapsed-few, told-few}
 
 total-most : (most : Order → ℕ) → ((o : Order) → most o ≤ 2) → (os : List Order) → total most os ≤ 2 * length os
 total-most most h [] = omega arith
 total-most most h (o ∷ os) = omega (arith, h o, total-most most h os)
-
--- what a file holds that was given some orders
-pub held-with : (f : File) (os : List Order) → held (withOrders f os) ≡ os
-unfolding places
-held-with f os = take-at os (replicate (mostOrders - length os) blank) (length os) refl
 
 -- ---- the evaluation
 evaluation-few : (calendar : List ℕ) (today premise retailer : ℕ) (os : List Order) → length (evaluation calendar today premise retailer os .notices) ≤ total atSettling os
@@ -108,21 +103,21 @@ stepped-few : (calendar : List ℕ) (today : ℕ) (f : File) (r : Record) → f 
 unfolding stepped
 stepped-few calendar today f r h room =
     let first : Effect = cond (is kindNewOrder r) (ordered calendar today f r) (atPlace f r (named r (held f))) in
-    let few : Few first = by-test Few (is kindNewOrder r) (λ e. new-few calendar today f r (room e)) (λ e. place-few f r (named r (held f)) h) in
+    let few : Few first = by-test Few (is kindNewOrder r) _ _ (λ e. new-few calendar today f r (room e)) (λ e. place-few f r (named r (held f)) h) in
     omega (arith, few .notices, few .orders, evaluated-few calendar today (first .file), length-append (first .notices) (evaluated calendar today (first .file) .notices))
 
 effect-few : (calendar : List ℕ) (today : ℕ) (file : Option File) (r : Record) → eqb (number (firstRow (rows calendar today file r))) 0 ≡ true → is kindDayMark r ≡ false → Held FileKept file
     → length (effectOn calendar today file r .notices) ≤ mostOfRecord
-effect-few calendar today none r e m k = by-test (λ (g : Given). length (g .notices) ≤ mostOfRecord) (is kindCreate r) (λ t. omega arith) (λ t. omega arith)
+effect-few calendar today none r e m k = by-test (λ (g : Given). length (g .notices) ≤ mostOfRecord) (is kindCreate r) _ _ (λ t. omega arith) (λ t. omega arith)
 effect-few calendar today (some f) r e m k =
     let P : Given → Type 0 = (λ g. length (g .notices) ≤ mostOfRecord) in
-    by-test P (is kindRetire r) (λ t. omega arith) (λ t.
-    by-test P (is kindDayMark r) (λ t. absurd (true≢false (sym t ∙ m))) (λ t.
+    by-test P (is kindRetire r) _ _ (λ t. omega arith) (λ t.
+    by-test P (is kindDayMark r) _ _ (λ t. absurd (true≢false (sym t ∙ m))) (λ t.
     stepped-few calendar today f r (k .tidy .few) (λ new. accepted-room calendar today f r (k .tidy .few) e new)))
 
 pub step-few : StepFew
 unfolding step
 step-few calendar s r formed m k =
-    by-test (λ (g : Given). length (g .notices) ≤ mostOfRecord) (eqb (number (firstRow (rows calendar (s .today) (s .file) r))) 0)
+    by-test (λ (g : Given). length (g .notices) ≤ mostOfRecord) (eqb (number (firstRow (rows calendar (s .today) (s .file) r))) 0) _ _
     (λ e. effect-few calendar (s .today) (s .file) r e m k)
     (λ e. omega arith)

@@ -21,13 +21,9 @@ use Rattle.premise.specs.Evaluation.{settle, settled, dropDrops, dropped
 use Rattle.premise.specs.Refusals.{firstRow, rows}
 use Rattle.premise.specs.OnePremise.{Given, effectOn, atPlace, followed, marked, stepped, step}
 use Rattle.premise.specs.Laws.{Held, Of, StepNotices, MarkNotices}
-use Rattle.premise.proofs.Tests.{by-test}
+use Rattle.lists.proofs.TestLaws.{by-test}
+use Rattle.lists.proofs.SearchLaws.{each-append}
 use Rattle.premise.proofs.Answers.{either}
-
--- ---- a property of notices, over lists, passes and what follows
-pub each-append : {A : Type 0} (P : A → Type 0) (xs ys : List A) → Each P xs → Each P ys → Each P (xs ++ ys)
-each-append P [] ys h k = k
-each-append P (x ∷ xs) ys (h, hs) k = (h, each-append P xs ys hs k)
 
 module _ (P : Notice → Type 0) where
   pub each-pass : (g : ℕ → Order → Change) → ((i : ℕ) (o : Order) → Each P (g i o .notices)) → (i : ℕ) (os : List Order) → Each P (passFrom g i os .notices)
@@ -155,16 +151,16 @@ unfolding stepped
 stepped-of calendar today f r =
     let first : Effect = cond (is kindNewOrder r) (ordered calendar today f r) (atPlace f r (named r (held f))) in
     let stays : Stays (f .premise) first =
-    by-test (Stays (f .premise)) (is kindNewOrder r) (λ e. new-of calendar today f r) (λ e. place-of f r (named r (held f))) in
+    by-test (Stays (f .premise)) (is kindNewOrder r) _ _ (λ e. new-of calendar today f r) (λ e. place-of f r (named r (held f))) in
     each-followed (Of (f .premise)) first (evaluated calendar today) (stays .notices) (evaluated-of calendar today (f .premise) (first .file) (stays .file))
 
 effect-of : (calendar : List ℕ) (today : ℕ) (file : Option File) (r : Record) (premise : ℕ) → Held (λ f. f .premise ≡ premise) file
     → Each (Of premise) (effectOn calendar today file r .notices)
-effect-of calendar today none r premise h = by-test (λ (g : Given). Each (Of premise) (g .notices)) (is kindCreate r) (λ e. tt) (λ e. tt)
+effect-of calendar today none r premise h = by-test (λ (g : Given). Each (Of premise) (g .notices)) (is kindCreate r) _ _ (λ e. tt) (λ e. tt)
 effect-of calendar today (some f) r premise h =
     let P : Given → Type 0 = (λ g. Each (Of premise) (g .notices)) in
-    by-test P (is kindRetire r) (λ e. tt) (λ e.
-    by-test P (is kindDayMark r) (λ e. of-same (marked calendar (r .day) f .notices) h (mark-notices calendar (r .day) f))
+    by-test P (is kindRetire r) _ _ (λ e. tt) (λ e.
+    by-test P (is kindDayMark r) _ _ (λ e. of-same (marked calendar (r .day) f .notices) h (mark-notices calendar (r .day) f))
     (λ e. of-same (stepped calendar today f r .notices) h (stepped-of calendar today f r)))
 
 pub step-notices : StepNotices

@@ -1,11 +1,6 @@
--- Laws of tests: what a test picks, and what is known where a test made of others passes. Assumes nothing.
+-- Laws of tests that are made of others: what is known of one where the whole passes or fails. Assumes nothing.
 use mathlib.Core.Path.{_≡_, refl, sym, _∙_}
-use mathlib.Core.Bool.{Bool, true, false, cond, _&&_, _||_}
-
--- what holds on both sides of a test holds of what it picks
-pub by-test : {A : Type 0} (P : A → Type 0) (b : Bool) {x y : A} → (b ≡ true → P x) → (b ≡ false → P y) → P (cond b x y)
-by-test P true h k = h refl
-by-test P false h k = k refl
+use mathlib.Core.Bool.{Bool, true, false, _||_}
 
 -- where a test passes that would fail without another, the other passes
 pub must : (other test : Bool) → (other ≡ false → test ≡ false) → test ≡ true → other ≡ true
@@ -17,14 +12,7 @@ pub must-not : (other test : Bool) → (other ≡ true → test ≡ true) → te
 must-not false test h e = refl
 must-not true test h e = sym (h refl) ∙ e
 
-pub and-left : (a b : Bool) → (a && b) ≡ true → a ≡ true
-and-left a b = must a (a && b) (λ n. rw n)
-
-pub and-right : (a b : Bool) → (a && b) ≡ true → b ≡ true
-and-right true b e = e
-and-right false true e = refl
-and-right false false e = e
-
+-- one of two tests passes
 pub by-either : {X : Type 0} (a b : Bool) → (a || b) ≡ true → (a ≡ true → X) → (b ≡ true → X) → X
 by-either true b e h k = h refl
 by-either false b e h k = k e

@@ -1,9 +1,15 @@
 // The premise layer: one premise, its file and its orders. Here stand its types; the rules over them stand in specs/, section by
-// section from document 01, and what the layers above may rely on is stated in specs/Laws.antt. The helper crates
-// `premise_orders`, `premise_clock`, `premise_evaluation` and `premise_steps` do in code what the rules say.
+// section from document 01, and what the layer above may rely on is stated in specs/Laws.antt. The helper crates of the layer,
+// `premise_notices` to `premise_steps`, do in code what the rules say. The layer above calls `records::read_record`,
+// `premise_kept::file_kept`, `premise_steps::on_record` and `premise_passes::mark`; everything else is inner.
 
 // How many orders a file holds at most.
 pub const MOST_ORDERS: usize = 8;
+
+// How many business days an order is counted to wait at most, and how many calendar days end Cancel Pending.
+pub const MOST_WAITED: u8 = 21;
+
+pub const MOST_PENDING: u8 = 7;
 
 // The statuses of an order. They are numbers with names, and no enum, since a damaged book can hold any number.
 pub const IN_REVIEW: u8 = 1;

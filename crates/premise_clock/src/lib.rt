@@ -9,10 +9,9 @@ ghost use Rattle.premise.specs.Promises.{Room, DoneToOrder};
 ghost use Rattle.premise_clock.specs.Review.{reviewEnds};
 use premise::BusinessDays;
 use premise::CalendarDays;
+use premise::MOST_WAITED;
 use premise::Order;
 use premise::Stepped;
-
-const MOST_WAITED: u8 = 21;
 
 const LONG_REVIEW: u8 = 20;
 

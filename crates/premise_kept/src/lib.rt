@@ -12,12 +12,9 @@ ghost use Rattle.premise.specs.Orders.{mostOrders, inReview, unexecutable, held
 ghost use Rattle.premise.specs.Clock.{mostWaited};
 ghost use Rattle.premise.specs.WellKept.{dayFits, permitFits, pendingFits, orderKept, distinct, isBlank, fileKept, fileBlank};
 use premise::File;
+use premise::MOST_PENDING;
+use premise::MOST_WAITED;
 use premise::Order;
-
-// Business days that an order can have waited.
-const MOST_WAITED: u8 = 21;
-// Cancel Pending ends at so many calendar days: an order held is below.
-const MOST_PENDING: u8 = 7;
 
 // Whether what was submitted is in range: reference, kind, retailer and requested day.
 fn submission_kept(o: Order) -> bool

@@ -13,7 +13,8 @@ use Rattle.premise.specs.declared.Order.{Order}
 use Rattle.premise.specs.declared.File.{File}
 use Rattle.premise.specs.Orders.{blank, held}
 use Rattle.premise.specs.WellKept.{Tidy}
-use Rattle.premise_changes.proofs.Files.{length-held, drop-held}
+use Rattle.premise.proofs.KeptFiles.{length-held}
+use Rattle.premise_changes.proofs.Files.{drop-held}
 
 module _ (p : Order → Bool) (f : File) (tidy : Tidy f) (i : ℕ) where
   pub place-hit : i < f .count → p (getD (f .orders) i blank) ≡ true → placeFrom p i (drop i (held f)) ≡ At i

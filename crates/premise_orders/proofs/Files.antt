@@ -4,8 +4,8 @@ use mathlib.Core.Path.{_≡_, refl, sym, ap, ap₂, _∙_}
 use mathlib.Core.List.{List, [], _∷_, _++_, append-nil}
 use mathlib.Core.Bool.{Bool}
 use native.Mathlib.Omega.{arith}
-use lib.ListN.{drop, length, getD, set, replicate, length-take, length-append, length-replicate, length-set}
-use lib.Seq.{getD-take, set-append-seam, set-append-left, append-snoc, take-append-seam, take-all}
+use lib.ListN.{drop, length, getD, set, replicate, length-append, length-set}
+use lib.Seq.{getD-take, set-append-seam, set-append-left, append-snoc, take-all}
 use Rattle.lists.specs.declared.Found.the-variants.{At}
 use Rattle.lists.specs.Search.{placeOf}
 use Rattle.lists.proofs.Find.{drop-part, part-none, place-below}
@@ -15,16 +15,13 @@ use Rattle.premise.specs.declared.File.{File}
 use Rattle.premise.specs.Orders.{mostOrders, blank, held, places, withOrders, withSupply}
 use Rattle.premise.specs.Steps.{newFile}
 use Rattle.premise.specs.WellKept.{Tidy}
+use Rattle.premise.proofs.KeptFiles.{tidy-with, length-held, length-orders}
 
 -- a file with its count and its places set
 abbrev pub withPlaces : File → ℕ → List Order → File
 withPlaces f n l = record { premise = f .premise; retailer = f .retailer; since = f .since; count = n; orders = l }
 
 -- ---- the eight places of a list
-pub length-places : (os : List Order) → length os ≤ mostOrders → length (places os) ≡ mostOrders
-unfolding places
-length-places os h = simp (length-append, length-replicate) (omega arith)
-
 -- one order more takes the first unused place
 pub places-more : (os : List Order) (o : Order) → length os < mostOrders → set (places os) (length os) o ≡ places (os ++ (o ∷ []))
 unfolding places
@@ -45,15 +42,6 @@ pub places-full : (os : List Order) → length os ≡ mostOrders → places os �
 unfolding places
 places-full os h = rw h (append-nil os)
 
--- ---- the file with other orders
-module _ (f : File) (os : List Order) where
-  pub held-with : held (withOrders f os) ≡ os
-  unfolding places
-  held-with = take-append-seam os (replicate (mostOrders - length os) blank)
-
-  pub tidy-with : length os ≤ mostOrders → Tidy (withOrders f os)
-  tidy-with h = record { few = h; whole = ap places (sym held-with) }
-
 -- the file that a create makes
 pub tidy-new : (r : Record) → Tidy (newFile r)
 unfolding places
@@ -61,18 +49,8 @@ tidy-new r = record { few = omega arith; whole = refl }
 
 -- ---- a tidy file
 module _ (f : File) (tidy : Tidy f) where
-  pub length-held : length (held f) ≡ f .count
-  length-held =
-      let m = length-take (f .count) (f .orders) in
-      let s : length (held f) ≤ mostOrders = omega (arith, tidy .few) in
-      let e = ap length (tidy .whole) ∙ length-places (held f) s in
-      omega arith
-
-  pub length-orders : length (f .orders) ≡ mostOrders
-  length-orders = ap length (tidy .whole) ∙ length-places (held f) (omega (arith, length-held, tidy .few))
-
   pub same-file : f ≡ withOrders f (held f)
-  same-file = ap₂ (withPlaces f) (sym length-held) (tidy .whole)
+  same-file = ap₂ (withPlaces f) (sym (length-held f tidy)) (tidy .whole)
 
   pub tidy-supply : (retailer since : ℕ) → Tidy (withSupply f retailer since)
   tidy-supply retailer since = record { few = tidy .few; whole = tidy .whole }
@@ -80,23 +58,23 @@ module _ (f : File) (tidy : Tidy f) where
   -- what an order stored over another leaves
   pub set-held : (i : ℕ) (o : Order) → i < f .count → withPlaces f (f .count) (set (f .orders) i o) ≡ withOrders f (set (held f) i o)
   set-held i o h =
-      ap₂ (withPlaces f) (sym length-held ∙ sym (length-set (held f) i o))
-      (ap (λ (l : List Order). set l i o) (tidy .whole) ∙ places-set (held f) i o (omega (arith, length-held)))
+      ap₂ (withPlaces f) (sym (length-held f tidy) ∙ sym (length-set (held f) i o))
+      (ap (λ (l : List Order). set l i o) (tidy .whole) ∙ places-set (held f) i o (omega (arith, length-held f tidy)))
 
   pub tidy-set : (i : ℕ) (o : Order) → Tidy (withOrders f (set (held f) i o))
-  tidy-set i o = tidy-with f (set (held f) i o) (omega (arith, length-set (held f) i o, length-held, tidy .few))
+  tidy-set i o = tidy-with f (set (held f) i o) (omega (arith, length-set (held f) i o, length-held f tidy, tidy .few))
 
   -- what an order stored in the first unused place leaves
   pub pushed : (o : Order) → f .count < mostOrders → withPlaces f (f .count + 1) (set (f .orders) (f .count) o) ≡ withOrders f (held f ++ (o ∷ []))
   pushed o h =
-      let n = length-held in
+      let n = length-held f tidy in
       let a = length-append (held f) (o ∷ []) in
       ap₂ (withPlaces f) (omega arith)
       (ap₂ (λ (l : List Order) (i : ℕ). set l i o) (tidy .whole) (sym n) ∙ places-more (held f) o (omega arith))
 
   -- a full file's orders are its places
   pub held-full : f .count ≡ mostOrders → held f ≡ f .orders
-  held-full e = take-all (f .count) (f .orders) (omega (arith, length-orders, e))
+  held-full e = take-all (f .count) (f .orders) (omega (arith, length-orders f tidy, e))
 
 -- the order at a place
 pub at-held : (f : File) (i : ℕ) → i < f .count → getD (f .orders) i blank ≡ getD (held f) i blank

@@ -20,7 +20,8 @@ use Rattle.premise.specs.declared.File.{File}
 use Rattle.premise.specs.Orders.{mostOrders, isOpen, isClosed, blank, held, withOrders}
 use Rattle.premise.specs.Steps.{makeRoom}
 use Rattle.premise.specs.WellKept.{Tidy}
-use Rattle.premise_orders.proofs.Files.{withPlaces, length-held, length-orders, held-full, places-full, tidy-with, place-held}
+use Rattle.premise.proofs.KeptFiles.{length-held, length-orders, tidy-with}
+use Rattle.premise_orders.proofs.Files.{withPlaces, held-full, places-full, place-held}
 
 -- ---- eight open orders
 module _ (f : File) (tidy : Tidy f) where

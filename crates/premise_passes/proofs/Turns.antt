@@ -15,7 +15,7 @@ use Rattle.premise.specs.Passes.{Change, passFrom, pass, onFile}
 use Rattle.premise.specs.WellKept.{Tidy}
 use Rattle.premise.specs.Promises.{Room, Writes, DoneToOrder, DoneToFile}
 use Rattle.premise_notices.proofs.Writes.{writes-none, writes-length, room-first, room-then, writes-then}
-use Rattle.premise_changes.proofs.Files.{length-held, length-orders}
+use Rattle.premise.proofs.KeptFiles.{length-held, length-orders}
 use Rattle.premise_passes.proofs.Files.{withPlaces}
 
 module _ (step : ℕ → Order → Change) where

@@ -29,7 +29,8 @@ use Rattle.premise.specs.Promises.{Room, Writes, DoneToOrder, DoneToFile, asStr
 use Rattle.premise.specs.OnePremise.{State, Given, leaving, step}
 use Rattle.premise.proofs.KeptNew.{room-few}
 use Rattle.premise_notices.proofs.Writes.{writes-none}
-use Rattle.premise_orders.proofs.Files.{length-held, tidy-with, tidy-supply, tidy-set}
+use Rattle.premise.proofs.KeptFiles.{length-held, tidy-with}
+use Rattle.premise_orders.proofs.Files.{tidy-supply, tidy-set}
 use Rattle.premise_steps.specs.Parts.{replying, codeFor}
 use Rattle.premise_steps.proofs.Rows.{on}
 

@@ -3,3 +3,4 @@ pub mod Notices
 pub mod Emits
 pub mod Records
 pub mod Copy
+pub mod Decode

@@ -1,4 +1,4 @@
-// The premise layer: the 24-byte layout that records and notices share. Its face: `read_record` and `write_notice`.
+// The premise layer: the 24-byte layout that records and notices share. Its face: `read_record`, `write_notice` and `read_notice`.
 // Document 01, "Records".
 ghost use mathlib.Core.Path.{_≡_};
 ghost use mathlib.Core.List.{_++_};
@@ -14,11 +14,14 @@ pub mod record_kind;
 mod kinds;
 // Numbers in bytes, low byte first.
 mod bytes;
+// A notice from its bytes.
+mod read;
 
 use bytes::fields_of;
 use bytes::notice_bytes;
 use bytes::zero_field_of;
 use kinds::well_formed;
+pub use read::read_notice;
 
 // The length of a record and of a notice.
 pub const RECORD_LENGTH: usize = 24;

@@ -1,0 +1,50 @@
+-- How long a line can be, as statements; proofs/Lengths.antt proves them. With them a caller lends a fixed room instead of asking each text's own length.
+use Prim.Native.Nat.{ℕ, _≤_, _<_}
+use lib.ListN.{length}
+use Rattle.records.specs.declared.Notice.{Notice}
+use Rattle.records.specs.Notices.{FitsFields}
+use Rattle.tape_text.specs.Text.{recordLine, noticeLine, fileLine, totalLine}
+
+-- The first 65,520 bytes of a tape hold at most so many records.
+abbrev pub mostRecords : ℕ
+mostRecords = 2730
+
+-- the last number of the table of answers
+abbrev pub lastAnswer : ℕ
+lastAnswer = 15
+
+-- a call gives at most so many notices
+abbrev pub mostNotices : ℕ
+mostNotices = 1024
+
+-- a record's line, for any numbers: three of 20 digits, two spaces, the end
+abbrev pub anyRecordLineMost : ℕ
+anyRecordLineMost = 63
+
+abbrev pub AnyRecordLine : Type 0
+AnyRecordLine = (place answer n : ℕ) → length (recordLine place answer n) ≤ anyRecordLineMost
+
+-- .. and for those of a tape
+abbrev pub recordLineMost : ℕ
+recordLineMost = 13
+
+abbrev pub RecordLine : Type 0
+RecordLine = (place answer n : ℕ) → place ≤ mostRecords → answer ≤ lastAnswer → n ≤ mostNotices → length (recordLine place answer n) ≤ recordLineMost
+
+abbrev pub noticeLineMost : ℕ
+noticeLineMost = 60
+
+abbrev pub NoticeLine : Type 0
+NoticeLine = (x : Notice) → FitsFields x → length (noticeLine x) ≤ noticeLineMost
+
+abbrev pub fileLineMost : ℕ
+fileLineMost = 40
+
+abbrev pub FileLine : Type 0
+FileLine = (premise retailer since : ℕ) → premise < 18446744073709551616 → retailer < 4294967296 → since < 65536 → length (fileLine premise retailer since) ≤ fileLineMost
+
+abbrev pub totalLineMost : ℕ
+totalLineMost = 13
+
+abbrev pub TotalLine : Type 0
+TotalLine = (accepted refused : ℕ) → accepted ≤ mostRecords → refused ≤ mostRecords → length (totalLine accepted refused) ≤ totalLineMost

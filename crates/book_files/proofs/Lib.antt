@@ -1,0 +1,4 @@
+pub mod Tidy
+pub mod Before
+pub mod Marks
+pub mod WellKept

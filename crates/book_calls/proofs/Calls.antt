@@ -18,11 +18,12 @@ use Rattle.records.specs.Records.{reading, kindCreate, kindDayMark}
 use Rattle.records.specs.Notices.{encodeAll, Emits}
 use Rattle.premise.specs.declared.File.{File}
 use Rattle.premise.specs.declared.Answer.{Answer}
-use Rattle.premise.specs.declared.Answer.the-variants.{ShortBuffer, NotWellKept, MalformedRecord, BookFull}
+use Rattle.premise.specs.declared.Answer.the-variants.{Accepted, ShortBuffer, NotWellKept, MalformedRecord, BookFull}
 use Rattle.premise.specs.Steps.{is}
 use Rattle.premise.specs.Refusals.{row, firstRow, number, isHeld, ordersOf, premiseRows, orderRows}
 use Rattle.premise.specs.Promises.{Writes}
 use Rattle.premise.proofs.Answers.{create-passes}
+use Rattle.premise.proofs.Table.{accepted-is-zero}
 use Rattle.premise_notices.proofs.Writes.{writes-none}
 use Rattle.book.specs.declared.Book.{Book}
 use Rattle.book.specs.declared.Reply.{Reply}
@@ -47,6 +48,10 @@ writes-emits before after n xs w =
     let e : recordLength * (0 + length xs) ≡ recordLength * length xs = omega arith in
     record { count = omega (arith, w .count); bytes = w .bytes ∙ ap (λ (i : ℕ). encodeAll xs ++ drop i before) e }
 
+-- an answer that is not acceptance refuses
+refuses : (answer : Answer) → (answer ≡ Accepted → ⊥) → eqb (number answer) 0 ≡ false
+refuses answer other = ne-eqb (number answer) 0 (λ e. other (accepted-is-zero answer .0 e))
+
 module _ (calendar : List ℕ) (b : Book) (bytes lent : List ℕ) where
   -- what a part gives, where it is the whole call, is what the call promises
   pub promised : (result : Result) (p : Reply) (after : List ℕ) → call calendar b bytes lent ≡ result → Gives result p lent after → Promised calendar b bytes lent p after
@@ -56,13 +61,13 @@ module _ (calendar : List ℕ) (b : Book) (bytes lent : List ℕ) where
 
   -- row 1
   pub call-short : length lent < noticeBytes → call calendar b bytes lent ≡ refusal ShortBuffer b
-  unfolding call callRows number
-  call-short h = rw (lt-ltb (length lent) noticeBytes h)
+  unfolding call callRows
+  call-short h = rw (lt-ltb (length lent) noticeBytes h, refuses ShortBuffer (λ e. let z : _≡_ {A = ℕ} 0 1 = cc in omega arith))
 
   -- row 2
   pub call-unkept : noticeBytes ≤ length lent → bookKept b ≡ false → call calendar b bytes lent ≡ refusal NotWellKept b
-  unfolding call callRows number
-  call-unkept h k = rw (le-ltb (length lent) noticeBytes h, k)
+  unfolding call callRows
+  call-unkept h k = rw (le-ltb (length lent) noticeBytes h, k, refuses NotWellKept (λ e. let z : _≡_ {A = ℕ} 0 1 = cc in omega arith))
 
   module _ (k : BookKept b) (room : noticeBytes ≤ length lent) where
     -- row 6
@@ -81,8 +86,7 @@ module _ (calendar : List ℕ) (b : Book) (bytes lent : List ℕ) where
             let z : _≡_ {A = ℕ} 0 1 = cc (none-such) in absurd (omega (arith, z))
 
     decided-full : (first : Answer) → first ≡ BookFull → cond (eqb (number first) 0) (onReading calendar b (reading bytes)) (refusal first b) ≡ refusal BookFull b
-    unfolding number
-    decided-full first e = rw e refl
+    decided-full first e = rw (e, refuses BookFull (λ e. let z : _≡_ {A = ℕ} 0 1 = cc in omega arith))
 
     call-full : (r : Record) → reading bytes ≡ Says r → meetsRow6 b (Says r) ≡ true → call calendar b bytes lent ≡ refusal BookFull b
     unfolding call

@@ -65,11 +65,11 @@ module _ (f g : File) (gs : List File) where
   unfolding putIn
   put-before h = rw (lt-ltb (f .premise) (g .premise) h)
 
-  put-over : f .premise ≡ g .premise → putIn f (g ∷ gs) ≡ f ∷ gs
+  pub put-over : f .premise ≡ g .premise → putIn f (g ∷ gs) ≡ f ∷ gs
   unfolding putIn
   put-over h = rw (le-ltb (f .premise) (g .premise) (omega arith), eq-eqb (f .premise) (g .premise) h)
 
-  put-after : g .premise < f .premise → putIn f (g ∷ gs) ≡ g ∷ putIn f gs
+  pub put-after : g .premise < f .premise → putIn f (g ∷ gs) ≡ g ∷ putIn f gs
   unfolding putIn
   put-after h = rw (le-ltb (f .premise) (g .premise) (omega arith), ne-eqb (f .premise) (g .premise) (omega arith))
 

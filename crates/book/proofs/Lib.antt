@@ -5,9 +5,11 @@ pub mod Rows
 pub mod Marks
 pub mod Keeps
 pub mod Few
+pub mod Emits
 pub mod Demand1
 pub mod Picks
 pub mod Acts
+pub mod OnHeld
 pub mod OnWay
 pub mod OneCall
 pub mod Demand3

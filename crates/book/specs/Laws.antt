@@ -1,18 +1,22 @@
 -- What the layers above rely on about the book, as statements; proofs/ proves each.
-use Prim.Native.Nat.{ℕ, _*_, _≤_}
+use Prim.Native.Nat.{ℕ, _*_, _≤_, _<_}
 use mathlib.Core.Path.{_≡_}
 use mathlib.Core.Logic.{_↔_}
-use mathlib.Core.List.{List}
+use mathlib.Core.List.{List, map}
+use mathlib.Core.Option.{some}
 use mathlib.Core.Bool.{true, false}
-use lib.ListN.{length}
+use lib.ListN.{length, getD, set}
 use Rattle.lists.specs.Search.{Each}
 use Rattle.days.specs.Days.{lastDay}
 use Rattle.records.specs.declared.Record.{Record}
+use Rattle.records.specs.declared.Reading.the-variants.{Says}
 use Rattle.records.specs.Layout.{recordLength}
-use Rattle.records.specs.Records.{kindDayMark, wellFormed}
+use Rattle.records.specs.Records.{kindNewOrder, kindReply, kindDayMark, wellFormed, reading}
 use Rattle.premise.specs.declared.File.{File}
 use Rattle.premise.specs.Steps.{is}
+use Rattle.premise.specs.OnePremise.{Given, step}
 use Rattle.premise.specs.WellKept.{FileKept}
+use Rattle.premise.specs.Laws.{KeptFor}
 use Rattle.book.specs.declared.Book.{Book}
 use Rattle.book.specs.Book.{mostFiles, filesOf, bookOf, freshBook, risesFrom, bookKept}
 use Rattle.book.specs.Calls.{noticeBytes, onMark, onPremise, call}
@@ -55,3 +59,39 @@ StepAllFew =
 -- .. so that every call's go into the buffer that it is lent.
 abbrev pub CallFew : Type 0
 CallFew = (calendar : List ℕ) (b : Book) (bytes lent : List ℕ) → recordLength * length (call calendar b bytes lent .notices) ≤ length lent
+
+-- ---- a record on a premise that is held, by the place of its file
+-- a record of kinds 3 to 9, and a place that holds its premise's file; `past` is what a read past the last place would give, of which none comes
+pub record OnHeld (b : Book) (at : ℕ) (past : File) (r : Record) : Type 0 where
+  pub within : at < b .count
+  pub own : getD (b .files) at past .premise ≡ r .premise
+  pub from : kindNewOrder ≤ r .kind
+  pub upto : r .kind ≤ kindReply
+
+-- what the one-premise rules give on T and the file at a place
+abbrev pub givenAt : List ℕ → Book → ℕ → File → Record → Given
+givenAt calendar b at past r = step calendar (record { today = b .today; file = some (getD (b .files) at past) }) r
+
+-- the book with another file at a place
+abbrev pub withFileAt : Book → ℕ → File → Book
+withFileAt b at g = record { today = b .today; count = b .count; files = set (b .files) at g }
+
+-- the premise numbers of all its places, 0 where a place is unused
+abbrev pub numbersOf : Book → List ℕ
+numbersOf b = map (λ (f : File). f .premise) (b .files)
+
+-- what a call comes to that leaves the file g: the one-premise rules' step on the file at the place, with g stored there
+pub record StoresFile (calendar : List ℕ) (b : Book) (bytes lent : List ℕ) (r : Record) (at : ℕ) (past g : File) : Type 0 where
+  pub result :
+      call calendar b bytes lent
+      ≡ record { answer = givenAt calendar b at past r .answer; notices = givenAt calendar b at past r .notices; book = withFileAt b at g }
+  pub file : KeptFor (r .premise) g
+  pub book : bookKept (withFileAt b at g) ≡ true
+  pub numbers : numbersOf (withFileAt b at g) ≡ numbersOf b
+
+abbrev pub CallOnHeld : Type 0
+CallOnHeld =
+    (calendar : List ℕ) (b : Book) (bytes lent : List ℕ) (r : Record) (at : ℕ) (past g : File)
+    → bookKept b ≡ true → noticeBytes ≤ length lent → reading bytes ≡ Says r → OnHeld b at past r
+    → givenAt calendar b at past r .state .file ≡ some g
+    → StoresFile calendar b bytes lent r at past g

@@ -1,27 +1,23 @@
 -- What a call does, row by row in the table's order, and what its parts make up. Assumes nothing.
-use Prim.Native.Nat.{ℕ, _+_, _*_, _≤_, _<_}
+use Prim.Native.Nat.{ℕ, _≤_, _<_}
 use mathlib.Core.Path.{_≡_, refl, ap, subst⁻¹, _∙_}
 use mathlib.Core.List.{List, [], _∷_, _++_}
 use mathlib.Core.Option.{Option, none, some}
 use mathlib.Core.Bool.{Bool, true, false, cond, not, _&&_}
 use native.Mathlib.Omega.{arith}
 use lib.Dec.{eqb}
-use lib.ListN.{length, drop}
+use lib.ListN.{length}
 use borrow.Author.Tests.{eqb-true, ne-eqb, lt-ltb, le-ltb}
 use Rattle.lists.proofs.TestLaws.{and-left, and-right}
 use Rattle.records.specs.declared.Record.{Record}
-use Rattle.records.specs.declared.Notice.{Notice}
 use Rattle.records.specs.declared.Reading.{Reading}
 use Rattle.records.specs.declared.Reading.the-variants.{Malformed, Says}
-use Rattle.records.specs.Layout.{recordLength}
 use Rattle.records.specs.Records.{reading, kindCreate, kindDayMark}
-use Rattle.records.specs.Notices.{encodeAll, Emits}
 use Rattle.premise.specs.declared.File.{File}
 use Rattle.premise.specs.declared.Answer.{Answer}
 use Rattle.premise.specs.declared.Answer.the-variants.{Accepted, ShortBuffer, NotWellKept, MalformedRecord, BookFull}
 use Rattle.premise.specs.Steps.{is}
 use Rattle.premise.specs.Refusals.{row, firstRow, number, isHeld, ordersOf, premiseRows, orderRows}
-use Rattle.premise.specs.Promises.{Writes}
 use Rattle.premise.proofs.Answers.{create-passes}
 use Rattle.premise.proofs.Table.{accepted-is-zero}
 use Rattle.premise_notices.proofs.Writes.{writes-none}
@@ -34,6 +30,7 @@ use Rattle.book.specs.Promise.{Promised}
 use Rattle.book.specs.Demand3.{meetsRow6}
 use Rattle.book.proofs.Kept.{book-kept-means}
 use Rattle.book.proofs.Rows.{record-decides}
+use Rattle.book.proofs.Emits.{writes-emits}
 use Rattle.book.proofs.Acts.{asMark, asOne, acted, call-acts}
 use Rattle.book_calls.specs.Parts.{Gives, onDayMark, onOther}
 
@@ -41,12 +38,6 @@ use Rattle.book_calls.specs.Parts.{Gives, onDayMark, onOther}
 pub gives-refusal : (answer : Answer) (b : Book) (p : Reply) (buffer : List ℕ) → p ≡ record { answer = answer; sent = 0; book = b } → Gives (refusal answer b) p buffer buffer
 gives-refusal answer b p buffer e =
     subst⁻¹ (λ (x : Reply). Gives (refusal answer b) x buffer buffer) e (record { answer = refl; book = refl; wrote = writes-none 0 buffer })
-
--- notices behind none are notices from the buffer's start
-writes-emits : (before after : List ℕ) (n : ℕ) (xs : List Notice) → Writes 0 before after n xs → Emits before after n xs
-writes-emits before after n xs w =
-    let e : recordLength * (0 + length xs) ≡ recordLength * length xs = omega arith in
-    record { count = omega (arith, w .count); bytes = w .bytes ∙ ap (λ (i : ℕ). encodeAll xs ++ drop i before) e }
 
 -- an answer that is not acceptance refuses
 refuses : (answer : Answer) → (answer ≡ Accepted → ⊥) → eqb (number answer) 0 ≡ false

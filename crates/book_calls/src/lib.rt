@@ -152,7 +152,7 @@ fn on_bytes(calendar: &[u8], b: Book, bytes: &[u8], buffer: &mut [u8]) -> Reply
     requires { ⌜ BookKept b × (noticeBytes ≤ length (now buffer)) ⌝ }
     ensures { λ p. ⌜ Promised (now (calendar .entry)) b (now (bytes .entry)) (now (buffer .entry)) p (now (buffer .exit)) ⌝ }
 {
-    let reading = records::read_record(bytes);
+    let reading = record_bytes::read_record(bytes);
     match reading {
         Reading::Malformed => refuse(Answer::MalformedRecord, b),
         Reading::Says(r) => {

@@ -147,7 +147,7 @@ pub fn book_kept(b: Book) -> bool
     }
     'unused: while i < book::MOST_FILES {
         let f = b.files[i];
-        if !premise_kept::file_blank(f) {
+        if !premise_unused::file_blank(f) {
             return false;
         }
         i += 1;

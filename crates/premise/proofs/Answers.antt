@@ -14,9 +14,9 @@ use Rattle.premise.specs.declared.File.{File}
 use Rattle.premise.specs.declared.Answer.{Answer}
 use Rattle.premise.specs.declared.Answer.the-variants.{Accepted, ShortBuffer, NotWellKept, MalformedRecord, NoSuchPremise, PremiseHeld, BookFull, OrderOpen, ReferenceHeld, DayOutOfRange, NoSwitchDate, NotFirstIn, StackFull, NoSuchOrder, StatusNotTaken, NotNextDay}
 use Rattle.premise.specs.Steps.{is}
-use Rattle.premise.specs.Refusals.{Row, number, firstRow, rows, premiseRows, orderRows}
+use Rattle.premise.specs.Refusals.{Row, number, firstRow, rows, isHeld, premiseRows, orderRows}
 use Rattle.premise.specs.OnePremise.{State, Given, effectOn, decide, refused, step}
-use Rattle.premise.specs.Laws.{AnswerIsFirstRow, ZeroWhereNoRow, RefusalIs, RefusalChangesNothing, CreatePasses, OnlyMarksMove, MarkStep, OnlyCreateMakes, markedOr}
+use Rattle.premise.specs.Laws.{AnswerIsFirstRow, ZeroWhereNoRow, RefusalIs, RefusalChangesNothing, CreatePasses, OnlyMarksMove, MarkStep, OnlyCreateMakes, OnlyRetireTakes, markedOr}
 use Rattle.lists.proofs.TestLaws.{by-test, and-left, and-right}
 
 -- ---- any list of rows
@@ -117,6 +117,12 @@ only-marks-move calendar s r h = either (λ g. g .state .today ≡ s .today) (fi
 pub only-create-makes : OnlyCreateMakes
 unfolding step
 only-create-makes calendar today r h = either (λ g. g .state .file ≡ none) (firstRow (rows calendar today none r)) (record { today = today; file = none }) (rw h) refl
+
+pub only-retire-takes : OnlyRetireTakes
+unfolding step
+only-retire-takes calendar today f r h =
+    either (λ g. isHeld (g .state .file) ≡ true) (firstRow (rows calendar today (some f) r)) (record { today = today; file = some f })
+    (rw h (by-test (λ (g : Given). isHeld (g .state .file) ≡ true) (is kindDayMark r) _ _ (λ e. refl) (λ e. refl))) refl
 
 -- of a day mark's rows only the last can hold
 mark-rows : (calendar : List ℕ) (today : ℕ) (file : Option File) (r : Record) → r .kind ≡ kindDayMark

@@ -16,3 +16,4 @@ pub mod Allowance
 pub mod Few
 pub mod Blank
 pub mod Table
+pub mod Places

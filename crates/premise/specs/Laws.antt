@@ -11,14 +11,14 @@ use Rattle.lists.specs.Search.{anyOf, Each}
 use Rattle.days.specs.Days.{lastDay}
 use Rattle.records.specs.declared.Record.{Record}
 use Rattle.records.specs.declared.Notice.{Notice}
-use Rattle.records.specs.Records.{kindCreate, kindDayMark, wellFormed}
+use Rattle.records.specs.Records.{kindCreate, kindRetire, kindDayMark, wellFormed}
 use Rattle.premise.specs.declared.File.{File}
 use Rattle.premise.specs.declared.Answer.{Answer}
 use Rattle.premise.specs.declared.Answer.the-variants.{Accepted, PremiseHeld, NotNextDay}
 use Rattle.premise.specs.Orders.{mostOrders, blankFile, held}
 use Rattle.premise.specs.Steps.{is}
 use Rattle.premise.specs.WellKept.{fileKept, fileBlank, FileKept}
-use Rattle.premise.specs.Refusals.{Row, number, premiseRows, rows, firstRow}
+use Rattle.premise.specs.Refusals.{Row, number, premiseRows, rows, firstRow, isHeld}
 use Rattle.premise.specs.OnePremise.{State, Given, accepted, refused, leaving, marked, step}
 
 -- a property of the file, where there is one
@@ -93,6 +93,10 @@ MarkStep =
 -- only a create makes a file
 abbrev pub OnlyCreateMakes : Type 0
 OnlyCreateMakes = (calendar : List ℕ) (today : ℕ) (r : Record) → is kindCreate r ≡ false → step calendar (record { today = today; file = none }) r .state .file ≡ none
+
+-- only a retire takes a file away
+abbrev pub OnlyRetireTakes : Type 0
+OnlyRetireTakes = (calendar : List ℕ) (today : ℕ) (f : File) (r : Record) → is kindRetire r ≡ false → isHeld (step calendar (record { today = today; file = some f }) r .state .file) ≡ true
 
 -- a file is of a premise and well kept
 pub record KeptFor (premise : ℕ) (f : File) : Type 0 where

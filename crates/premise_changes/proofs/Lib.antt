@@ -1,4 +1,2 @@
-pub mod Files
-pub mod Search
 pub mod Done
 pub mod Cases

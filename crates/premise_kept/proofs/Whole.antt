@@ -1,34 +1,40 @@
 -- Laws of a whole file: its test, part by part, where the parts before passed. Assumes nothing.
-use Prim.Native.Nat.{ℕ, _≤_}
+use Prim.Native.Nat.{_<_, _≤_}
 use mathlib.Core.Path.{_≡_}
 use mathlib.Core.Bool.{Bool, true, false, _&&_, and-false}
 use lib.Dec.{eqb, leb}
 use lib.ListN.{length, drop}
-use borrow.Author.Tests.{eq-eqb, ne-eqb, le-leb, leb-true}
+use borrow.Author.Tests.{eq-eqb, ne-eqb, le-leb, lt-leb, leb-true}
 use Rattle.lists.specs.Search.{allOf}
+use Rattle.lists.proofs.TestLaws.{and-right}
 use Rattle.days.specs.Days.{lastDay, isDay}
 use Rattle.records.specs.Records.{lastRetailer, aPremise, aRetailerOrNone}
 use Rattle.premise.specs.declared.File.{File}
 use Rattle.premise.specs.Orders.{mostOrders, held}
-use Rattle.premise.specs.WellKept.{orderKept, distinct, isBlank, fileKept, fileBlank}
+use Rattle.premise.specs.WellKept.{orderKept, distinct, isBlank, fileKept}
 
 -- the file's fields besides its orders
 abbrev pub headKept : File → Bool
 headKept f = aPremise (f .premise) && aRetailerOrNone (f .retailer) && isDay (f .since) && leb (f .count) mostOrders
 
-second : (a b : Bool) → a && b ≡ true → b ≡ true
-second true b e = e
-second false b e = let z : _≡_ {A = ℕ} 0 1 = cc in cc
-
 module _ (f : File) where
-  -- the count decides where the rest of the head is in range
+  -- ---- the head: a field out of range fails, and the count decides where the others are in range
+  pub no-premise : f .premise ≡ 0 → false ≡ headKept f
+  no-premise e = rw e
+
+  pub retailer-above : lastRetailer < f .retailer → false ≡ headKept f
+  retailer-above h = simp (lt-leb (f .retailer) lastRetailer h, and-false)
+
+  pub since-above : lastDay < f .since → false ≡ headKept f
+  since-above h = simp (lt-leb (f .since) lastDay h, and-false)
+
   pub count-decides : (f .premise ≡ 0 → ⊥) → f .retailer ≤ lastRetailer → f .since ≤ lastDay → leb (f .count) mostOrders ≡ headKept f
   count-decides a b c = rw (ne-eqb (f .premise) 0 a, le-leb (f .retailer) lastRetailer b, le-leb (f .since) lastDay c)
 
   pub head-few : headKept f ≡ true → f .count ≤ mostOrders
-  head-few h = leb-true (f .count) mostOrders (second (aPremise (f .premise) && aRetailerOrNone (f .retailer) && isDay (f .since)) (leb (f .count) mostOrders) h)
+  head-few h = leb-true (f .count) mostOrders (and-right (aPremise (f .premise) && aRetailerOrNone (f .retailer) && isDay (f .since)) (leb (f .count) mostOrders) h)
 
-  -- a part that fails
+  -- ---- the whole: a part that fails
   pub kept-no-head : headKept f ≡ false → fileKept f ≡ false
   unfolding fileKept
   kept-no-head e = rw e
@@ -42,12 +48,6 @@ module _ (f : File) where
   kept-no-references e = rw (e, and-false (headKept f && eqb (length (f .orders)) mostOrders && allOf orderKept (held f)))
 
   -- the places after the orders decide where the other parts passed
-  module _ (eight : length (f .orders) ≡ mostOrders) where
-    pub kept-rest : headKept f ≡ true → allOf orderKept (held f) ≡ true → distinct (held f) ≡ true → fileKept f ≡ allOf isBlank (drop (f .count) (f .orders))
-    unfolding fileKept
-    kept-rest h o d = rw (h, eq-eqb (length (f .orders)) mostOrders eight, o, d)
-
-    -- with no orders the places after them are all the places
-    pub blank-rest : f .premise ≡ 0 → f .retailer ≡ 0 → f .since ≡ 0 → f .count ≡ 0 → fileBlank f ≡ allOf isBlank (drop (f .count) (f .orders))
-    unfolding fileBlank
-    blank-rest a b c d = rw (a, b, c, d, eq-eqb (length (f .orders)) mostOrders eight)
+  pub kept-rest : length (f .orders) ≡ mostOrders → headKept f ≡ true → allOf orderKept (held f) ≡ true → distinct (held f) ≡ true → fileKept f ≡ allOf isBlank (drop (f .count) (f .orders))
+  unfolding fileKept
+  kept-rest eight h o d = rw (h, eq-eqb (length (f .orders)) mostOrders eight, o, d)

@@ -4,155 +4,12 @@ ghost use mathlib.Core.Path.{_≡_};
 ghost use mathlib.Core.Bool.{_&&_};
 ghost use Prim.Native.Nat.{_≤_};
 ghost use lib.Dec.{leb};
-ghost use lib.ListN.{drop};
 ghost use Rattle.lists.specs.Search.{allOf};
 ghost use Rattle.days.specs.Days.{isDay};
-ghost use Rattle.records.specs.Records.{aReference, aPremise, aRetailer, aRetailerOrNone, anOrderKind};
-ghost use Rattle.premise.specs.Orders.{mostOrders, inReview, unexecutable, held};
-ghost use Rattle.premise.specs.Clock.{mostWaited};
-ghost use Rattle.premise.specs.WellKept.{dayFits, permitFits, pendingFits, orderKept, distinct, isBlank, fileKept, fileBlank};
+ghost use Rattle.records.specs.Records.{aPremise, aRetailerOrNone};
+ghost use Rattle.premise.specs.Orders.{mostOrders, held};
+ghost use Rattle.premise.specs.WellKept.{orderKept, distinct, fileKept};
 use premise::File;
-use premise::MOST_PENDING;
-use premise::MOST_WAITED;
-use premise::Order;
-
-// Whether what was submitted is in range: reference, kind, retailer and requested day.
-fn submission_kept(o: Order) -> bool
-    ensures { λ r. ⌜ r ≡ aReference (o .reference) && anOrderKind (o .kind) && aRetailer (o .retailer) && isDay (o .requested) ⌝ }
-{
-    if o.reference == 0 {
-        return false;
-    }
-    if o.kind < records::order_kind::MOVE_IN {
-        return false;
-    }
-    if records::order_kind::MASS_TRANSITION_DROP < o.kind {
-        return false;
-    }
-    if o.retailer == 0 {
-        return false;
-    }
-    if records::LAST_RETAILER < o.retailer {
-        return false;
-    }
-    o.requested <= days::LAST_DAY
-}
-
-// Whether the scheduled day fits the status.
-fn day_fits(o: Order) -> bool
-    ensures { λ r. ⌜ r ≡ dayFits o ⌝ }
-{
-    if o.status == premise::IN_REVIEW {
-        return o.scheduled == days::NO_DAY;
-    }
-    if o.status == premise::PERMIT_PENDING {
-        return o.scheduled == days::NO_DAY;
-    }
-    if o.status == premise::SCHEDULED {
-        return o.scheduled <= days::LAST_DAY;
-    }
-    if o.status == premise::COMPLETE {
-        return o.scheduled <= days::LAST_DAY;
-    }
-    o.scheduled <= days::NO_DAY
-}
-
-// Whether the kind fits the status: only a move in waits for a permit.
-fn permit_fits(o: Order) -> bool
-    ensures { λ r. ⌜ r ≡ permitFits o ⌝ }
-{
-    if o.status == premise::PERMIT_PENDING {
-        return o.kind == records::order_kind::MOVE_IN;
-    }
-    true
-}
-
-// Whether the status is in range, and what goes with it fits.
-fn status_kept(o: Order) -> bool
-    ensures { λ r. ⌜ r ≡ leb inReview (o .status) && leb (o .status) unexecutable && dayFits o && permitFits o ⌝ }
-{
-    if o.status < premise::IN_REVIEW {
-        return false;
-    }
-    if premise::UNEXECUTABLE < o.status {
-        return false;
-    }
-    if !day_fits(o) {
-        return false;
-    }
-    permit_fits(o)
-}
-
-// Whether the days in Cancel Pending fit the status.
-fn pending_fits(o: Order) -> bool
-    ensures { λ r. ⌜ r ≡ pendingFits o ⌝ }
-{
-    let pending = o.pending;
-    if o.status == premise::CANCEL_PENDING {
-        return pending.0 < MOST_PENDING;
-    }
-    pending.0 == 0
-}
-
-// Whether the two counts of days and the mark of the losing retailer are in range.
-fn counts_kept(o: Order) -> bool
-    ensures { λ r. ⌜ r ≡ leb (o .waited .0) mostWaited && pendingFits o && leb (o .told) 1 ⌝ }
-{
-    let waited = o.waited;
-    if MOST_WAITED < waited.0 {
-        return false;
-    }
-    if !pending_fits(o) {
-        return false;
-    }
-    o.told <= 1
-}
-
-// Whether every field of an order is in range.
-fn order_kept(o: Order) -> bool
-    ensures { λ r. ⌜ r ≡ orderKept o ⌝ }
-{
-    if !submission_kept(o) {
-        return false;
-    }
-    if !status_kept(o) {
-        return false;
-    }
-    counts_kept(o)
-}
-
-// Whether a place is unused: zero in every field.
-fn is_blank(o: Order) -> bool
-    ensures { λ r. ⌜ r ≡ isBlank o ⌝ }
-{
-    if o.reference != 0 {
-        return false;
-    }
-    if o.kind != 0 {
-        return false;
-    }
-    if o.retailer != 0 {
-        return false;
-    }
-    if o.requested != 0 {
-        return false;
-    }
-    if o.scheduled != 0 {
-        return false;
-    }
-    if o.status != 0 {
-        return false;
-    }
-    let waited = o.waited;
-    if waited.0 != 0 {
-        return false;
-    }
-    let pending = o.pending;
-    if pending.0 != 0 {
-        return false;
-    }
-    o.told == 0
-}
 
 // Whether a file's fields besides its orders are in range.
 fn head_kept(file: File) -> bool
@@ -179,7 +36,7 @@ fn orders_kept(file: File) -> bool
     let mut i: usize = 0;
     while i < n {
         let o = file.orders[i];
-        if !order_kept(o) {
+        if !premise_order_kept::order_kept(o) {
             return false;
         }
         i += 1;
@@ -210,22 +67,6 @@ fn references_distinct(file: File) -> bool
     true
 }
 
-// Whether the places after the orders are unused.
-fn rest_blank(file: File) -> bool
-    requires { ⌜ file .count ≤ mostOrders ⌝ }
-    ensures { λ r. ⌜ r ≡ allOf isBlank (drop (file .count) (file .orders)) ⌝ }
-{
-    let mut i = file.count;
-    while i < premise::MOST_ORDERS {
-        let o = file.orders[i];
-        if !is_blank(o) {
-            return false;
-        }
-        i += 1;
-    }
-    true
-}
-
 // Whether a file is well kept.
 pub fn file_kept(file: File) -> bool
     ensures { λ r. ⌜ r ≡ fileKept file ⌝ }
@@ -239,24 +80,5 @@ pub fn file_kept(file: File) -> bool
     if !references_distinct(file) {
         return false;
     }
-    rest_blank(file)
-}
-
-// Whether an unused place of the book is zero in every field.
-pub fn file_blank(file: File) -> bool
-    ensures { λ r. ⌜ r ≡ fileBlank file ⌝ }
-{
-    if file.premise != 0 {
-        return false;
-    }
-    if file.retailer != 0 {
-        return false;
-    }
-    if file.since != 0 {
-        return false;
-    }
-    if file.count != 0 {
-        return false;
-    }
-    rest_blank(file)
+    premise_unused::rest_blank(file)
 }

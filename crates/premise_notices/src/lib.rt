@@ -53,6 +53,6 @@ pub fn send(standing: usize, notice: Notice, buffer: &mut [u8]) -> usize
     ensures { λ r. ⌜ Writes standing (now (buffer .entry)) (now (buffer .exit)) r (notice ∷ []) ⌝ }
 {
     let at = records::RECORD_LENGTH * standing;
-    records::write_notice(&mut buffer[at..], notice);
+    notice_bytes::write_notice(&mut buffer[at..], notice);
     standing + 1
 }

@@ -1,4 +1,1 @@
-pub mod Files
-pub mod Turns
 pub mod Then
-pub mod Quiet

@@ -14,11 +14,11 @@ use Rattle.premise.specs.WellKept.{Tidy}
 use Rattle.premise.specs.Promises.{Room, DoneToFile}
 use Rattle.premise_notices.proofs.Writes.{writes-none, room-first, room-then, writes-then}
 use Rattle.premise.proofs.KeptFiles.{length-held}
-use Rattle.premise_passes.specs.declared.Pass.{Pass}
-use Rattle.premise_passes.specs.declared.Pass.the-variants.{Settle, Displace, Lapse, Tell}
-use Rattle.premise_passes.specs.Which.{stepOf}
+use Rattle.premise_run.specs.declared.Pass.{Pass}
+use Rattle.premise_run.specs.declared.Pass.the-variants.{Settle, Displace, Lapse, Tell}
+use Rattle.premise_run.specs.Which.{stepOf}
 use Rattle.premise.proofs.KeptFiles.{held-with, tidy-with}
-use Rattle.premise_passes.proofs.Turns.{length-pass}
+use Rattle.premise_run.proofs.Turns.{length-pass}
 
 -- ---- any two effects
 module _ (first : Effect) (next : File → Effect) (standing : ℕ) (b : List ℕ) (room : Room standing (followed first next .notices) b) where

@@ -1,13 +1,9 @@
-// The premise layer, inner: what a record says of one order. The day and the start of a new order, whether a record of kinds 4 to 9 is
-// taken, and what it does to the order that it names and to the premise's supply.
+// The premise layer, inner: what a record of kinds 4 to 9 does to the order that it names, with its notices.
 ghost use mathlib.Core.Path.{_≡_};
-ghost use mathlib.Core.Bool.{_&&_, _||_};
-ghost use Rattle.records.specs.Records.{moveIn};
-ghost use Rattle.premise.specs.Orders.{inReview, hasKind, hasStatus, withStatus, withPending};
-ghost use Rattle.premise.specs.Steps.{requestedDay, newOrder, taken, onScheduled, onPermit, onUnexecutable, onCancel, onReply, onOrder, supplied};
-ghost use Rattle.premise.specs.Refusals.{limited, outOfRange};
+ghost use Rattle.premise.specs.Orders.{withStatus, withPending};
+ghost use Rattle.premise.specs.Steps.{onScheduled, onPermit, onUnexecutable, onCancel, onReply, onOrder};
 ghost use Rattle.premise.specs.Promises.{Room, DoneToOrder};
-ghost use Rattle.premise_records.specs.Parts.{telling, asRead, statusAgain, gainingRetailer};
+ghost use Rattle.premise_records.specs.Parts.{telling, hearsToo, asRead, statusAgain};
 use premise::BusinessDays;
 use premise::CANCEL_PENDING;
 use premise::CANCELLED;
@@ -26,110 +22,6 @@ use premise_notices::CODE_REJECT;
 use premise_notices::CODE_SCHEDULED;
 use premise_notices::CODE_UNEXECUTABLE;
 use records::Record;
-
-// Row 9: how many days ahead of today, and back, an order may be requested for.
-const MOST_AHEAD: u32 = 90;
-
-const MOST_BACK: u32 = 270;
-
-// The retailer of a premise that is de-energized.
-const NOBODY: u32 = 0;
-
-// The requested day of a new order.
-pub fn requested_day(calendar: &[u8], today: u16, r: Record) -> u16
-    ensures { λ d. ⌜ d ≡ requestedDay (now (calendar .entry)) today r ⌝ }
-{
-    if r.detail == records::order_kind::STANDARD_SWITCH {
-        return days::switch_date(calendar, today);
-    }
-    r.day
-}
-
-// Whether an order's kind is held to the limits of row 9.
-pub fn is_limited(kind: u8) -> bool
-    ensures { λ r. ⌜ r ≡ limited kind ⌝ }
-{
-    if kind == records::order_kind::MOVE_IN {
-        return true;
-    }
-    if kind == records::order_kind::MOVE_OUT {
-        return true;
-    }
-    kind == records::order_kind::SELF_SELECTED_SWITCH
-}
-
-// Whether a requested day is too far from today.
-pub fn is_out_of_range(today: u16, requested: u16) -> bool
-    ensures { λ r. ⌜ r ≡ outOfRange today requested ⌝ }
-{
-    let t = today as u32;
-    let d = requested as u32;
-    if t + MOST_AHEAD < d {
-        return true;
-    }
-    d + MOST_BACK < t
-}
-
-// A new order, as it starts.
-pub fn new_order(calendar: &[u8], today: u16, r: Record, requested: u16) -> Order
-    requires { ⌜ requested ≡ requestedDay (now calendar) today r ⌝ }
-    ensures { λ o. ⌜ o ≡ newOrder (now (calendar .entry)) today r ⌝ }
-{
-    let mut waited = BusinessDays(0);
-    if days::is_business_day(calendar, today) {
-        waited = BusinessDays(1);
-    }
-    Order {
-        reference: r.reference,
-        kind: r.detail,
-        retailer: r.retailer,
-        requested: requested,
-        scheduled: days::NO_DAY,
-        status: IN_REVIEW,
-        waited: waited,
-        pending: CalendarDays(0),
-        told: 0,
-    }
-}
-
-// Whether a record of kinds 4 to 9 is taken by the order that it names.
-pub fn is_taken(r: Record, o: Order) -> bool
-    ensures { λ t. ⌜ t ≡ taken r o ⌝ }
-{
-    let kind = r.kind;
-    match kind {
-        4 => is_one_of(o, IN_REVIEW, PERMIT_PENDING, CANCEL_PENDING),
-        5 => can_need_permit(o),
-        6 => premise_orders::is_open(o),
-        7 => is_one_of(o, SCHEDULED, PERMIT_PENDING, PERMIT_PENDING),
-        8 => is_one_of(o, IN_REVIEW, PERMIT_PENDING, SCHEDULED),
-        9 => o.status == CANCEL_PENDING,
-        _ => false,
-    }
-}
-
-// Whether an order has one of three statuses.
-fn is_one_of(o: Order, first: u8, second: u8, third: u8) -> bool
-    ensures { λ r. ⌜ r ≡ (hasStatus first o || hasStatus second o || hasStatus third o) ⌝ }
-{
-    if o.status == first {
-        return true;
-    }
-    if o.status == second {
-        return true;
-    }
-    o.status == third
-}
-
-// Whether an order is a move in which is In Review: the only one that a permit can hold up.
-fn can_need_permit(o: Order) -> bool
-    ensures { λ r. ⌜ r ≡ (hasKind moveIn o && hasStatus inReview o) ⌝ }
-{
-    if o.kind != records::order_kind::MOVE_IN {
-        return false;
-    }
-    o.status == IN_REVIEW
-}
 
 // An order as a record leaves it, and one notice on it.
 fn tell(
@@ -191,6 +83,16 @@ fn permit(file: File, r: Record, o: Order, standing: usize, buffer: &mut [u8]) -
     tell(CODE_PERMIT, file.premise, o.retailer, t, standing, buffer)
 }
 
+// Whether the premise's own retailer hears of an order that is unexecutable: where it had been told of it.
+fn hears_too(told: u8, retailer: u32) -> bool
+    ensures { λ b. ⌜ b ≡ hearsToo told retailer ⌝ }
+{
+    if told != 1 {
+        return false;
+    }
+    retailer != premise_named::NOBODY
+}
+
 // Kind 6: Unexecutable; the submitting retailer is told, and the premise's own where it had been told of the order.
 fn unexecutable(file: File, r: Record, o: Order, standing: usize, buffer: &mut [u8]) -> Stepped
     requires { ⌜ Room standing (onUnexecutable file r o .notices) (now buffer) ⌝ }
@@ -205,10 +107,7 @@ fn unexecutable(file: File, r: Record, o: Order, standing: usize, buffer: &mut [
         standing,
         buffer,
     );
-    if o.told != 1 {
-        return s;
-    }
-    if file.retailer == NOBODY {
+    if !hears_too(o.told, file.retailer) {
         return s;
     }
     tell(
@@ -295,35 +194,4 @@ pub fn change_order(file: File, r: Record, o: Order, standing: usize, buffer: &m
         8 => cancel(file, r, o, standing, buffer),
         _ => reply(file, r, o, standing, buffer),
     }
-}
-
-// The retailer that a read order hands the premise to: nobody for a move out.
-fn gaining(o: Order) -> u32
-    ensures { λ q. ⌜ q ≡ gainingRetailer o ⌝ }
-{
-    if o.kind == records::order_kind::MOVE_OUT {
-        return NOBODY;
-    }
-    o.retailer
-}
-
-// Who supplies the premise after a record: a read of a Scheduled order, on a day not before the one since which the retailer holds, hands
-// it over.
-pub fn supply(file: File, r: Record, o: Order) -> File
-    ensures { λ f. ⌜ f ≡ supplied file r o ⌝ }
-{
-    if r.kind != records::record_kind::READ {
-        return file;
-    }
-    if o.status != SCHEDULED {
-        return file;
-    }
-    if r.day < file.since {
-        return file;
-    }
-    let retailer = gaining(o);
-    let mut f = file;
-    f.retailer = retailer;
-    f.since = r.day;
-    f
 }

@@ -1,12 +1,10 @@
 -- Laws of the layout, over any width and any field. Assumes nothing.
-use Prim.Native.Nat.{ℕ, zero, suc, _+_, _*_, _/_, _^_, _<_, _≤_}
+use Prim.Native.Nat.{ℕ, zero, suc, _/_, _^_, _<_}
 use mathlib.Core.Path.{_≡_, refl, ap}
 use mathlib.Core.List.{List, [], _∷_}
 use native.Mathlib.Nat.{mod-lt, mod-add-div, pow-suc, one-le-pow}
-use native.Mathlib.Numerals.{add-one}
 use native.Mathlib.Omega.{arith}
 use lib.ListN.{length, take, drop, getD}
-use lib.Seq.{drop-cons}
 use Rattle.records.specs.Layout.{Field, Bytes, number, bytesOf, fieldOf}
 
 -- A number that goes into so many bytes is read back from them.
@@ -49,39 +47,3 @@ number-below (suc width) (x ∷ xs) h = rw pow-suc (omega (arith, number-below w
 pub field-below : (field : Field) (xs : List ℕ) → Bytes xs → fieldOf field xs < 256 ^ field .width
 unfolding fieldOf
 field-below field xs h = number-below (field .width) (drop (field .start) xs) (bytes-drop (field .start) xs h)
-
--- ---- a number is read byte by byte
-module _ (bytes : List ℕ) where
-  read-more : (from width : ℕ) → from < length bytes → number (take (suc width) (drop from bytes)) ≡ getD bytes from 0 + 256 * number (take width (drop (from + 1) bytes))
-  read-more from width h = rw (drop-cons bytes from 0 h, ← add-one from)
-
-  pub read-one : (from : ℕ) → from < length bytes → number (take 1 (drop from bytes)) ≡ getD bytes from 0
-  read-one from h = omega (arith, read-more from 0 h)
-
-  pub read-two : (from : ℕ) → from + 2 ≤ length bytes → number (take 2 (drop from bytes)) ≡ getD bytes from 0 + 256 * getD bytes (from + 1) 0
-  read-two from h = omega (arith, read-more from 1 (omega arith), read-one (from + 1) (omega arith))
-
-  -- four bytes, and what so many more of them give
-  read-four-more : (from width : ℕ) → from + 4 ≤ length bytes
-      → number (take (suc (suc (suc (suc width)))) (drop from bytes))
-      ≡ getD bytes from 0
-      + 256 * (getD bytes (from + 1) 0 + 256 * (getD bytes (from + 2) 0 + 256 * (getD bytes (from + 3) 0 + 256 * number (take width (drop (from + 4) bytes)))))
-  read-four-more from width h =
-      let second : from + 1 + 1 ≡ from + 2 = omega arith in
-      let third : from + 2 + 1 ≡ from + 3 = omega arith in
-      let fourth : from + 3 + 1 ≡ from + 4 = omega arith in
-      omega (
-        arith,
-        read-more from (suc (suc (suc width))) (omega arith),
-        rw second at (read-more (from + 1) (suc (suc width)) (omega arith)),
-        rw third at (read-more (from + 2) (suc width) (omega arith)),
-        rw fourth at (read-more (from + 3) width (omega arith)),
-      )
-
-  pub read-four : (from : ℕ) → from + 4 ≤ length bytes
-      → number (take 4 (drop from bytes)) ≡ getD bytes from 0 + 256 * (getD bytes (from + 1) 0 + 256 * (getD bytes (from + 2) 0 + 256 * getD bytes (from + 3) 0))
-  read-four from h = omega (arith, read-four-more from 0 h)
-
-  pub read-eight : (from : ℕ) → from + 8 ≤ length bytes
-      → number (take 8 (drop from bytes)) ≡ number (take 4 (drop from bytes)) + 4294967296 * number (take 4 (drop (from + 4) bytes))
-  read-eight from h = omega (arith, read-four-more from 4 (omega arith), read-four from (omega arith))

@@ -1,5 +1,5 @@
 -- How long the lines can be: each number of a line below a power of ten has at most so many digits. Assumes nothing.
-use Prim.Native.Nat.{ℕ, _+_, _≤_}
+use Prim.Native.Nat.{ℕ, _+_, _*_, _≤_, _<_}
 use mathlib.Core.Path.{_≡_}
 use mathlib.Core.List.{List, [], _∷_}
 use native.Mathlib.Omega.{arith}
@@ -8,12 +8,20 @@ use Rattle.records.specs.Layout.{Bytes}
 use Rattle.records.specs.Notices.{decode}
 use Rattle.records.proofs.Decode.{decode-fits}
 use Rattle.tape_text.specs.Text.{decimal, spaced, recordLine, noticeLine, fileLine, totalLine}
-use Rattle.tape_text.specs.Lengths.{noticeLineMost, AnyRecordLine, RecordLine, NoticeLine, FileLine, TotalLine}
+use Rattle.tape_text.specs.Lengths.{noticeLineMost, fileLineMost, AnyLettered, AnyRecordLine, RecordLine, NoticeLine, FileLine, TotalLine}
 use Rattle.tape_text.proofs.Digits.{decimal-within, decimal-below}
 
 -- one number more in a line
 spaced-more : (n : ℕ) (ns : List ℕ) → length (spaced (n ∷ ns)) ≡ length (decimal n) + length (spaced ns) + 1
 spaced-more n ns = omega (arith, length-append (decimal n) (spaced ns))
+
+-- at most 20 digits and a space for each number of a line
+any-spaced : (ns : List ℕ) → length (spaced ns) ≤ 1 + 21 * length ns
+any-spaced [] = omega arith
+any-spaced (n ∷ ns) = omega (arith, spaced-more n ns, decimal-within n, any-spaced ns)
+
+pub any-lettered : AnyLettered
+any-lettered letter ns = omega (arith, any-spaced ns)
 
 record-length : (place answer n : ℕ) → length (recordLine place answer n) ≡ length (decimal place) + length (decimal answer) + length (decimal n) + 3
 unfolding recordLine
@@ -50,9 +58,10 @@ notice-line x fits =
 pub notice-line-of : (bytes : List ℕ) → Bytes bytes → length (noticeLine (decode bytes)) ≤ noticeLineMost
 notice-line-of bytes b = notice-line (decode bytes) (decode-fits bytes b)
 
-pub file-line : FileLine
+-- whatever the premise's number, since it has at most 20 digits
+pub file-line-of : (premise retailer since : ℕ) → retailer < 4294967296 → since < 65536 → length (fileLine premise retailer since) ≤ fileLineMost
 unfolding fileLine
-file-line premise retailer since p r s =
+file-line-of premise retailer since r s =
     omega (
       arith,
       spaced-more premise (retailer ∷ since ∷ []),
@@ -62,6 +71,9 @@ file-line premise retailer since p r s =
       decimal-below 9 retailer (omega arith),
       decimal-below 4 since (omega arith),
     )
+
+pub file-line : FileLine
+file-line premise retailer since p r s = file-line-of premise retailer since r s
 
 pub total-line : TotalLine
 unfolding totalLine

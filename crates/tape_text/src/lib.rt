@@ -5,7 +5,7 @@ ghost use Prim.Native.Nat.{_+_, _≤_};
 ghost use lib.ListN.{length};
 ghost use Rattle.records.specs.Notices.{decode};
 ghost use Rattle.tape_text.specs.Text.{space, decimal, spaced, lettered, recordLine, noticeLine, fileLine, totalLine, Puts};
-use records::read_notice;
+use record_bytes::read_notice;
 
 const SPACE: u8 = b' ';
 
@@ -75,7 +75,7 @@ fn put_spaced(numbers: &[u64], start: usize, out: &mut [u8]) -> usize
 }
 
 // A line that begins with a letter.
-fn put_lettered(letter: u8, numbers: &[u64], start: usize, out: &mut [u8]) -> usize
+pub fn put_lettered(letter: u8, numbers: &[u64], start: usize, out: &mut [u8]) -> usize
     requires { ⌜ start + length (lettered letter (now numbers)) ≤ length (now out) ⌝ }
     ensures { λ r. ⌜ Puts start (now (out .entry)) (now (out .exit)) r (lettered letter (now (numbers .entry))) ⌝ }
 {

@@ -64,6 +64,10 @@ impl Book {
     }
 }
 
+/// A record call on a book: calendar, record and notice buffer go in, the answer
+/// and the number of notices come back.
+pub type RecordCall = fn(&mut Book, &[u8], &[u8], &mut [u8]) -> (Answer, usize);
+
 /// The record call: the answer, and how many notices stand in the buffer. A
 /// refusal leaves the book and the buffer as they were; otherwise the first 24
 /// bytes times the count are the notices, and the bytes after them stay.

@@ -1,7 +1,7 @@
 //! The tape player and its text.
 
 use crate::answer::Answer;
-use crate::book::{record_call, Book};
+use crate::book::{record_call, Book, RecordCall};
 use crate::file::File;
 use crate::notice::NOTICE_BUFFER_BYTES;
 use crate::record::{Fields, RECORD_BYTES};
@@ -32,11 +32,22 @@ impl TapeReader {
 /// Plays a tape over a fresh book that starts at day 0, and writes its lines. A
 /// short last record is a call like any other, and is answered 3.
 pub fn play(calendar: &[u8], tape: &[u8], out: &mut dyn Write) -> io::Result<()> {
+    play_by(record_call, calendar, tape, out)
+}
+
+/// The same, by another record call: the one without row 2's test, to measure
+/// what that test costs.
+pub fn play_by(
+    call: RecordCall,
+    calendar: &[u8],
+    tape: &[u8],
+    out: &mut dyn Write,
+) -> io::Result<()> {
     let mut book = Book::fresh(0);
     let mut reader = TapeReader::default();
     let mut notices = [0; NOTICE_BUFFER_BYTES];
     for record in tape.chunks(RECORD_BYTES) {
-        let (answer, count) = record_call(&mut book, calendar, record, &mut notices);
+        let (answer, count) = call(&mut book, calendar, record, &mut notices);
         reader.count(answer);
         writeln!(out, "{} {} {}", reader.place, answer.number(), count)?;
         write_notices(&notices, count, out)?;

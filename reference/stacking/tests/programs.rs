@@ -9,6 +9,7 @@ use std::process::{Command, Output, Stdio};
 const RANDOMTAPE: &str = env!("CARGO_BIN_EXE_randomtape");
 const CALLCHECK: &str = env!("CARGO_BIN_EXE_callcheck");
 const BENCH: &str = env!("CARGO_BIN_EXE_bench");
+const TAPE: &str = env!("CARGO_BIN_EXE_tape");
 
 /// Runs a program with its arguments in one line.
 fn run(program: &str, arguments: &str, input: &[u8]) -> Output {
@@ -60,6 +61,14 @@ fn a_seed_gives_the_same_tape_again() {
     assert_eq!(tape, output(RANDOMTAPE, "--seed 5 --records 200", b""));
     assert_ne!(tape, output(RANDOMTAPE, "--seed 6 --records 200", b""));
     assert_eq!(tape.len().div_ceil(RECORD_BYTES), 200);
+}
+
+#[test]
+fn a_tape_prints_the_same_without_row_2s_test() {
+    for seed in 0..6 {
+        let tape = output(RANDOMTAPE, &format!("--seed {seed} --records 300"), b"");
+        assert_eq!(output(TAPE, "", &tape), output(TAPE, "--untested", &tape));
+    }
 }
 
 #[test]

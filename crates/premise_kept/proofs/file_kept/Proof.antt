@@ -14,7 +14,7 @@ use Rattle.premise_kept.proofs.file_kept.Lts as lts
 use Rattle.premise_kept.proofs.head_kept.Reads as head-kept-reads
 use Rattle.premise_kept.proofs.orders_kept.Reads as orders-kept-reads
 use Rattle.premise_kept.proofs.references_distinct.Reads as references-distinct-reads
-use Rattle.premise_kept.proofs.rest_blank.Reads as rest-blank-reads
+use Rattle.premise_unused.proofs.rest_blank.Reads as rest-blank-reads
 
 eight : (s : lts.Start (head-kept-reads.Asked, head-kept-reads.Learnt, orders-kept-reads.Asked, orders-kept-reads.Learnt, references-distinct-reads.Asked, references-distinct-reads.Learnt, rest-blank-reads.Asked, rest-blank-reads.Learnt) reads.Pre reads.Post) → length (s .args .file .orders) ≡ mostOrders
 eight s = search unmapped

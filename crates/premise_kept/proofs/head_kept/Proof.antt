@@ -1,18 +1,16 @@
 -- `premise_kept::head_kept` meets its contract: at each return the tests that led there decide the range of the field. Assumes nothing.
-use mathlib.Core.Bool.{and-false}
-use borrow.Author.Tests.{eq-eqb, lt-leb}
-use Rattle.premise_kept.proofs.Whole.{count-decides}
+use Rattle.premise_kept.proofs.Whole.{no-premise, retailer-above, since-above, count-decides}
 use Rattle.premise_kept.proofs.head_kept.Statement.{statement}
 use Rattle.premise_kept.proofs.head_kept.Tie as tie
 
 returns : tie.Need-returns
-returns c = simp (eq-eqb _ _ (c .if1 .taken))
+returns c = no-premise (c .before .before .args .file) (c .if1 .taken)
 
 returns-2 : tie.Need-returns-2
-returns-2 c = simp (lt-leb _ _ (c .if2 .taken), and-false)
+returns-2 c = retailer-above (c .before .before .before .before .args .file) (c .if2 .taken)
 
 returns-3 : tie.Need-returns-3
-returns-3 c = simp (lt-leb _ _ (c .if3 .taken), and-false)
+returns-3 c = since-above (c .before .before .before .before .before .before .args .file) (c .if3 .taken)
 
 returns-4 : tie.Need-returns-4
 returns-4 c =

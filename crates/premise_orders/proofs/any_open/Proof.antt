@@ -7,7 +7,7 @@ use borrow.Author.Needs.{needs}
 use Rattle.lists.specs.Search.{anyOf}
 use Rattle.lists.proofs.Find.{any-hit, any-next, any-end}
 use Rattle.premise.specs.Orders.{isOpen, held}
-use Rattle.premise_orders.proofs.Files.{first-held, none-held}
+use Rattle.premise.proofs.Places.{first-held, none-held}
 use Rattle.premise_orders.proofs.any_open.Statement.{statement}
 use Rattle.premise_orders.proofs.any_open.Tie as tie
 

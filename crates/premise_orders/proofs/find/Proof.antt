@@ -11,7 +11,7 @@ use Rattle.lists.specs.Search.{placeFrom, placeOf}
 use Rattle.lists.proofs.Find.{place-hit, place-next, place-end}
 use Rattle.premise.specs.declared.Order.{Order}
 use Rattle.premise.specs.Orders.{held}
-use Rattle.premise_orders.proofs.Files.{first-held, none-held}
+use Rattle.premise.proofs.Places.{first-held, none-held}
 use Rattle.premise_orders.proofs.find.Statement.{statement}
 use Rattle.premise_orders.proofs.find.Tie as tie
 

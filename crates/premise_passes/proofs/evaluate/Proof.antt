@@ -5,7 +5,7 @@ use borrow.Author.Needs.{needs}
 use borrow.Author.Tests.{not-true}
 use Rattle.premise.specs.Evaluation.{evaluated}
 use Rattle.premise_notices.proofs.Writes.{writes-length}
-use Rattle.premise_passes.proofs.Quiet.{evaluated-still}
+use Rattle.premise_quiet.proofs.Quiet.{evaluated-still}
 use Rattle.premise_passes.proofs.Then.{done-nothing, settle-ready, displace-ready, lapse-ready, tell-ready, evaluate-done}
 use Rattle.premise_passes.proofs.evaluate.Statement.{statement}
 use Rattle.premise_passes.proofs.evaluate.Tie as tie

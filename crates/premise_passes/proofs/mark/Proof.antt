@@ -5,7 +5,7 @@ use Rattle.premise.specs.Passes.{onFile}
 use Rattle.premise.specs.Clock.{clock}
 use Rattle.premise.specs.Evaluation.{evaluated}
 use Rattle.premise.specs.OnePremise.{marked}
-use Rattle.premise_passes.specs.declared.Pass.the-variants.{Clock}
+use Rattle.premise_run.specs.declared.Pass.the-variants.{Clock}
 use Rattle.premise_passes.proofs.Then.{then-first, then-room, then-done, pass-tidy}
 use Rattle.premise_passes.proofs.mark.Statement.{statement}
 use Rattle.premise_passes.proofs.mark.Tie as tie

@@ -1,7 +1,7 @@
 -- `premise_passes::wind` meets its contract: the clock's pass, or a file that it leaves as it is. Assumes nothing.
 use mathlib.Core.Path.{sym, _∙_}
 use borrow.Author.Needs.{needs}
-use Rattle.premise_passes.proofs.Quiet.{clock-still}
+use Rattle.premise_quiet.proofs.Quiet.{clock-still}
 use Rattle.premise_passes.proofs.Then.{done-nothing}
 use Rattle.premise_passes.proofs.wind.Statement.{statement}
 use Rattle.premise_passes.proofs.wind.Tie as tie
@@ -10,7 +10,7 @@ any-waits-requires : tie.Need-any-waits-requires
 any-waits-requires c κs = search needs
 
 run-requires : tie.Need-run-requires
-run-requires c κs = search needs
+run-requires c κs = c .before .before .before .before .before .pre
 
 same-length : tie.Need-same-length
 same-length c = search needs

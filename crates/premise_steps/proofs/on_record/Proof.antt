@@ -14,7 +14,7 @@ on-file-requires c κs =
     let m = k .before in
     let s = m .before .before .before .before in
     let a = s .args in
-    (s .pre .0 .tidy (k .if3 .taken), m .before .if1 .left, s .pre .2, room-slot (a .slot) (k .if3 .taken) (a .calendar .now) (a .today) (a .r) (a .standing) (a .buffer .now) (s .pre .3))
+    (s .pre .0 .tidy (k .if3 .taken), omega (arith, m .before .if1 .left), s .pre .2, room-slot (a .slot) (k .if3 .taken) (a .calendar .now) (a .today) (a .r) (a .standing) (a .buffer .now) (s .pre .3))
 
 same-length : tie.Need-same-length
 same-length c = search needs
@@ -42,7 +42,7 @@ returns-2 c =
     let m = c .before .before in
     let s = m .before .before .before .before in
     let a = s .args in
-    c .no-premise .ensures (a .r) (m .before .if1 .left) (s .pre .2) (a .calendar .now) (a .today) (a .buffer .now)
+    c .no-premise .ensures (a .r) (omega (arith, m .before .if1 .left)) (s .pre .2) (a .calendar .now) (a .today) (a .buffer .now)
 
 returns-3 : tie.Need-returns-3
 returns-3 c =

@@ -5,7 +5,7 @@
 mod tapes;
 
 use stacking::answer::Answer;
-use stacking::book::{record_call, record_call_untested, Book};
+use stacking::book::{record_call, record_call_untested, Book, RecordCall};
 use stacking::notice::NOTICE_BUFFER_BYTES;
 use stacking::program::{self, Arguments};
 use stacking::record::RECORD_BYTES;
@@ -33,8 +33,6 @@ mixed  2,730 records of all kinds over 60 premises, mostly accepted
 ";
 
 const DEFAULT_RUNS: u64 = 101;
-
-type RecordCall = fn(&mut Book, &[u8], &[u8], &mut [u8]) -> (Answer, usize);
 
 fn main() -> ExitCode {
     program::finish("bench", run(Arguments::of_program()))

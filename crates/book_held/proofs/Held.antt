@@ -1,0 +1,86 @@
+-- A record of kinds 3 to 9 on the file of its premise: what it asks of the layer below is met, and what comes of it is what is promised.
+-- Assumes nothing.
+use Prim.Native.Nat.{ℕ, _≤_, _<_}
+use mathlib.Core.Path.{_≡_, refl, sym, ap, subst, subst⁻¹, _∙_}
+use mathlib.Core.List.{List}
+use mathlib.Core.Option.{Option, none, some}
+use mathlib.Core.Bool.{true, false, false≢true}
+use native.Mathlib.Omega.{arith}
+use lib.ListN.{length}
+use lib.Seq.{getD-take}
+use borrow.Author.Tests.{ne-eqb}
+use Rattle.lists.proofs.SearchLaws.{each-at}
+use Rattle.records.specs.declared.Record.{Record}
+use Rattle.records.specs.Records.{kindCreate, kindReply, kindDayMark}
+use Rattle.records.specs.Notices.{Emits}
+use Rattle.records.proofs.Records.{says}
+use Rattle.premise.specs.declared.File.{File}
+use Rattle.premise.specs.declared.FileOrNone.{FileOrNone}
+use Rattle.premise.specs.declared.Replied.{Replied}
+use Rattle.premise.specs.Steps.{is}
+use Rattle.premise.specs.Refusals.{isHeld}
+use Rattle.premise.specs.WellKept.{FileKept}
+use Rattle.premise.specs.Promises.{Room, asStruct, TidyOrNone, Answered}
+use Rattle.premise.proofs.Few.{step-few}
+use Rattle.book.specs.Book.{filesOf}
+use Rattle.book.specs.Calls.{Result}
+use Rattle.book.proofs.Kept.{count-is, book-kept-means}
+use Rattle.book.proofs.Emits.{writes-emits}
+use Rattle.book.proofs.OnHeld.{call-on-held}
+use Rattle.book_held.specs.Held.{HeldReady, heldGiven, HeldGives, BookReady, HeldInPlace}
+use Rattle.book_held.proofs.Stays.{file-stays}
+
+-- a file that is left, as the struct has it
+struct-held : (file : Option File) (s : FileOrNone) → s ≡ asStruct file → isHeld file ≡ true → some (s .file) ≡ file
+struct-held none s e h = absurd (false≢true h)
+struct-held (some f) s e h = ap (λ (x : FileOrNone). some (x .file)) e
+
+module _ (calendar : List ℕ) (today : ℕ) (file : File) (r : Record) (buffer : List ℕ) (ready : HeldReady file r buffer) where
+  -- ---- what the layer below asks
+  not-mark : is kindDayMark r ≡ false
+  not-mark = ne-eqb (r .kind) kindDayMark (λ q. omega (arith, q, ready .upto))
+
+  pub held-asks : TidyOrNone (record { held = true; file = file }) × (kindCreate ≤ r .kind) × (r .kind ≤ kindReply) × Room 0 (heldGiven calendar today file r .notices) buffer
+  held-asks = (
+    record { form = refl; tidy = λ _. ready .kept .tidy },
+    omega (arith, ready .from),
+    ready .upto,
+    omega (arith, step-few calendar (record { today = today; file = some file }) r (ready .formed) not-mark (ready .kept), ready .room),
+  )
+
+  -- ---- what comes of it
+  pub held-gives : (p : Replied) (after : List ℕ) → Answered (heldGiven calendar today file r) 0 p buffer after
+      → HeldGives (heldGiven calendar today file r) (record { answer = p .answer; sent = p .sent; file = p .after .file }) buffer after
+  held-gives p after a =
+      record {
+        answer = a .answer;
+        file = struct-held (heldGiven calendar today file r .state .file) (p .after) (a .file) (file-stays calendar today file r (ready .from) (ready .upto));
+        notices = writes-emits buffer after (p .sent) (heldGiven calendar today file r .notices) (a .wrote);
+      }
+
+pub book-ready : BookReady
+book-ready b bytes buffer r at past well e h room =
+    let k = book-kept-means b .0 well in
+    let inside : at < length (filesOf b) = omega (arith, h .within, count-is b k) in
+    record {
+      kept = subst FileKept (getD-take (b .count) (b .files) at past (h .within)) (each-at FileKept (filesOf b) at past inside (k .files));
+      formed = says bytes r e .formed;
+      from = h .from;
+      upto = h .upto;
+      own = h .own;
+      room = room;
+    }
+
+pub held-in-place : HeldInPlace
+held-in-place calendar b bytes before after r at past p well e h room gives =
+    let stores = call-on-held calendar b bytes before r at past (p .file) well room e h (sym (gives .file)) in
+    let same = stores .result in
+    record {
+      promised = record {
+        answer = gives .answer ∙ sym (ap (λ (x : Result). x .answer) same);
+        book = sym (ap (λ (x : Result). x .book) same);
+        notices = subst⁻¹ (λ (x : Result). Emits before after (p .sent) (x .notices)) same (gives .notices);
+      };
+      kept = stores .book;
+      numbers = stores .numbers;
+    }

@@ -1,0 +1,4 @@
+pub mod Numbers
+pub mod LookUp
+pub mod Stays
+pub mod Held

@@ -1,0 +1,2 @@
+pub mod InWay
+pub mod Table

@@ -1,0 +1,59 @@
+-- `premise_named::answer_for` meets its contract: at each return the row tested before did not hold, and the last one did. Assumes nothing.
+use mathlib.Core.Path.{sym, _∙_}
+use borrow.Author.Needs.{needs}
+use borrow.Author.Tests.{not-true, not-false}
+use Rattle.premise_orders.proofs.Files.{at-held}
+use Rattle.premise_named.proofs.Rows.{answer-foreign, answer-untaken, answer-accepted}
+use Rattle.premise_named.proofs.answer_for.Statement.{statement}
+use Rattle.premise_named.proofs.answer_for.Tie as tie
+
+mul-o : tie.Need-mul-o
+mul-o c = search needs
+
+element-copy-out-o : tie.Need-element-copy-out-o
+element-copy-out-o c = search needs
+
+is-foreign-requires : tie.Need-is-foreign-requires
+is-foreign-requires c κs = search needs
+
+returns : tie.Need-returns
+returns c =
+    let x = c .before in
+    let s = x .before .before in
+    let a = s .args in
+    answer-foreign (a .r) _ _ (at-held (a .t1) (a .i) (s .pre .1)) (sym (x .is-foreign .ensures) ∙ c .if1 .taken)
+
+is-taken-requires : tie.Need-is-taken-requires
+is-taken-requires c κs = search needs
+
+returns-2 : tie.Need-returns-2
+returns-2 c =
+    let t = c .before in
+    let k1 = t .before in
+    let x = k1 .before in
+    let s = x .before .before in
+    let a = s .args in
+    answer-untaken (a .r) _ _ (at-held (a .t1) (a .i) (s .pre .1)) (sym (x .is-foreign .ensures) ∙ k1 .if1 .left)
+    (sym (t .is-taken .ensures) ∙ not-true _ (c .if2 .taken))
+
+returns-3 : tie.Need-returns-3
+returns-3 c =
+    let t = c .before in
+    let k1 = t .before in
+    let x = k1 .before in
+    let s = x .before .before in
+    let a = s .args in
+    answer-accepted (a .r) _ _ (at-held (a .t1) (a .i) (s .pre .1)) (sym (x .is-foreign .ensures) ∙ k1 .if1 .left)
+    (sym (t .is-taken .ensures) ∙ not-false _ (c .if2 .left))
+
+pub answer-for-spec : {M : Type 1} → statement M
+answer-for-spec =
+    tie.close
+    (tie.spec
+    mul-o
+    element-copy-out-o
+    is-foreign-requires
+    returns
+    is-taken-requires
+    returns-2
+    returns-3)

@@ -1,0 +1,143 @@
+-- A pass by any step, run over a file and a buffer order by order: what stands after some turns, and at the end. Assumes nothing.
+use Prim.Native.Nat.{ℕ, suc, _+_, _-_, _<_, _≤_}
+use mathlib.Core.Path.{_≡_, refl, sym, ap, ap₂, subst, subst⁻¹, _∙_}
+use mathlib.Core.List.{List, [], _∷_, _++_, append-assoc, append-nil}
+use native.Mathlib.Numerals.{add-one}
+use native.Mathlib.Omega.{arith}
+use lib.ListN.{take, drop, length, getD, set, replicate, take-append-drop, length-take}
+use lib.Seq.{take-all, take-suc, drop-at, drop-cons, set-at, append-snoc, getD-take}
+use Rattle.records.specs.declared.Notice.{Notice}
+use Rattle.premise.specs.declared.Order.{Order}
+use Rattle.premise.specs.declared.File.{File}
+use Rattle.premise.specs.declared.Stepped.{Stepped}
+use Rattle.premise.specs.Orders.{mostOrders, blank, held, places}
+use Rattle.premise.specs.Passes.{Change, passFrom, pass, onFile}
+use Rattle.premise.specs.WellKept.{Tidy}
+use Rattle.premise.specs.Promises.{Room, Writes, DoneToOrder, DoneToFile}
+use Rattle.premise_notices.proofs.Writes.{writes-none, writes-length, room-first, room-then, writes-then}
+use Rattle.premise.proofs.KeptFiles.{length-held, length-orders}
+use Rattle.premise.proofs.Places.{withPlaces}
+
+module _ (step : ℕ → Order → Change) where
+  -- a pass over a list that is put together
+  pub pass-orders : (j : ℕ) (xs ys : List Order) → passFrom step j (xs ++ ys) .orders ≡ passFrom step j xs .orders ++ passFrom step (j + length xs) ys .orders
+  pass-orders j [] ys = ap (λ (n : ℕ). passFrom step n ys .orders) (omega arith)
+  pass-orders j (x ∷ xs) ys =
+      ap (λ (l : List Order). step j x .order ∷ l) (pass-orders (suc j) xs ys ∙ ap (λ (n : ℕ). passFrom step (suc j) xs .orders ++ passFrom step n ys .orders) (omega arith))
+
+  pub pass-notices : (j : ℕ) (xs ys : List Order) → passFrom step j (xs ++ ys) .notices ≡ passFrom step j xs .notices ++ passFrom step (j + length xs) ys .notices
+  pass-notices j [] ys = ap (λ (n : ℕ). passFrom step n ys .notices) (omega arith)
+  pass-notices j (x ∷ xs) ys =
+      ap (λ (l : List Notice). step j x .notices ++ l) (pass-notices (suc j) xs ys ∙ ap (λ (n : ℕ). passFrom step (suc j) xs .notices ++ passFrom step n ys .notices) (omega arith))
+      ∙ sym (append-assoc (step j x .notices) (passFrom step (suc j) xs .notices) (passFrom step (j + length (x ∷ xs)) ys .notices))
+
+  -- a pass keeps the number of orders
+  pub length-pass : (j : ℕ) (xs : List Order) → length (passFrom step j xs .orders) ≡ length xs
+  length-pass j [] = refl
+  length-pass j (x ∷ xs) = ap suc (length-pass (suc j) xs)
+
+-- a pass after i turns: the first i orders are done, their notices sent
+pub record Sofar (step : ℕ → Order → Change) (file : File) (standing : ℕ) (b : List ℕ) (i sent : ℕ) (out : File) (c : List ℕ) : Type 0 where
+  pub within : i ≤ file .count
+  pub here : out ≡ withPlaces file (file .count) (pass step (take i (held file)) .orders ++ drop i (file .orders))
+  pub wrote : Writes standing b c sent (pass step (take i (held file)) .notices)
+
+pub sofar-none : (step : ℕ → Order → Change) (file : File) (standing : ℕ) (b : List ℕ) → Sofar step file standing b 0 standing file b
+sofar-none step file standing b = record { within = omega arith; here = refl; wrote = writes-none standing b }
+
+-- one order more, stored in its place
+set-turn : (done old : List Order) (i : ℕ) (o : Order) → length done ≡ i → i < length old → set (done ++ drop i old) i o ≡ (done ++ (o ∷ [])) ++ drop (i + 1) old
+set-turn done old i o l h =
+    ap (λ (r : List Order). set (done ++ r) i o) (drop-cons old i blank h)
+    ∙ set-at done (getD old i blank) (drop (suc i) old) o i l
+    ∙ sym (append-snoc done o (drop (suc i) old))
+    ∙ ap (λ (n : ℕ). (done ++ (o ∷ [])) ++ drop n old) (sym (add-one i))
+
+module _ (step : ℕ → Order → Change) (file : File) (tidy : Tidy file) where
+  module _ (i : ℕ) (h : i < file .count) where
+    -- the order at a place, and what the step does to it
+    abbrev o : Order
+    o = getD (file .orders) i blank
+
+    at-place : 0 + length (take i (held file)) ≡ i
+    at-place = omega (arith, length-take i (held file), length-held file tidy)
+
+    -- the first i + 1 orders
+    held-more : take (i + 1) (held file) ≡ take i (held file) ++ (o ∷ [])
+    held-more =
+        let n = length-held file tidy in
+        rw (add-one i, take-suc (held file) i blank (omega arith), getD-take (file .count) (file .orders) i blank h)
+
+    orders-more : pass step (take (i + 1) (held file)) .orders ≡ pass step (take i (held file)) .orders ++ (step i o .order ∷ [])
+    orders-more =
+        ap (λ (l : List Order). pass step l .orders) held-more
+        ∙ pass-orders step 0 (take i (held file)) (o ∷ [])
+        ∙ ap (λ (n : ℕ). pass step (take i (held file)) .orders ++ (step n o .order ∷ [])) at-place
+
+    notices-more : pass step (take (i + 1) (held file)) .notices ≡ pass step (take i (held file)) .notices ++ step i o .notices
+    notices-more =
+        ap (λ (l : List Order). pass step l .notices) held-more
+        ∙ pass-notices step 0 (take i (held file)) (o ∷ [])
+        ∙ ap (λ (n : ℕ). pass step (take i (held file)) .notices ++ (step n o .notices ++ [])) at-place
+        ∙ ap (λ (l : List Notice). pass step (take i (held file)) .notices ++ l) (append-nil (step i o .notices))
+
+  -- the notices: those of the first i orders, and the others
+  notices-split : (i : ℕ) → i ≤ file .count → pass step (held file) .notices ≡ pass step (take i (held file)) .notices ++ passFrom step (0 + length (take i (held file))) (drop i (held file)) .notices
+  notices-split i h =
+      ap (λ (l : List Order). pass step l .notices) (sym (take-append-drop i (held file)))
+      ∙ pass-notices step 0 (take i (held file)) (drop i (held file))
+
+  module _ (standing : ℕ) (b : List ℕ) (room : Room standing (pass step (held file) .notices) b) where
+    -- room for the notices of the first i orders
+    room-sofar : (i : ℕ) → i ≤ file .count → Room standing (pass step (take i (held file)) .notices) b
+    room-sofar i h =
+        room-first standing b (pass step (take i (held file)) .notices) (passFrom step (0 + length (take i (held file))) (drop i (held file)) .notices)
+        (subst (λ (l : List Notice). Room standing l b) (notices-split i h) room)
+
+    module _ (i sent : ℕ) (out : File) (c : List ℕ) (s : Sofar step file standing b i sent out c) where
+      pub sofar-length : length c ≡ length b
+      sofar-length = writes-length standing b (pass step (take i (held file)) .notices) (room-sofar i (s .within)) c sent (s .wrote)
+
+      module _ (h : i < file .count) where
+        room-more : Room standing (pass step (take i (held file)) .notices ++ step i (o i h) .notices) b
+        room-more = subst (λ (l : List Notice). Room standing l b) (notices-more i h) (room-sofar (i + 1) (omega arith))
+
+        -- room for the notices of the next order
+        pub sofar-room : Room sent (step i (getD (file .orders) i blank) .notices) c
+        sofar-room = room-then standing b (pass step (take i (held file)) .notices) (step i (o i h) .notices) room-more c sent (s .wrote)
+
+        -- one turn
+        pub sofar-turn : (r : Stepped) (d : List ℕ) → DoneToOrder (step i (getD (file .orders) i blank)) sent r c d
+            → Sofar step file standing b (i + 1) (r .sent) (withPlaces out (out .count) (set (out .orders) i (r .order))) d
+        sofar-turn r d done =
+            let l : length (pass step (take i (held file)) .orders) ≡ i = length-pass step 0 (take i (held file)) ∙ omega (arith, at-place i h) in
+            record {
+              within = omega arith;
+              here =
+                  ap (λ (x : File). withPlaces x (x .count) (set (x .orders) i (r .order))) (s .here)
+                  ∙ ap (withPlaces file (file .count))
+                  (set-turn (pass step (take i (held file)) .orders) (file .orders) i (r .order) l (omega (arith, length-orders file tidy, tidy .few))
+                  ∙ ap (λ (x : Order). (pass step (take i (held file)) .orders ++ (x ∷ [])) ++ drop (i + 1) (file .orders)) (done .order)
+                  ∙ ap (λ (x : List Order). x ++ drop (i + 1) (file .orders)) (sym (orders-more i h)));
+              wrote =
+                  subst⁻¹ (λ (l : List Notice). Writes standing b d (r .sent) l) (notices-more i h)
+                  (writes-then standing b (pass step (take i (held file)) .notices) (step i (o i h) .notices) room-more c sent (s .wrote) d (r .sent) (done .wrote));
+            }
+
+  -- after the last turn the pass is done
+  pub sofar-all : (standing : ℕ) (b : List ℕ) (i sent : ℕ) (out : File) (c : List ℕ) → Sofar step file standing b i sent out c → file .count ≤ i
+      → DoneToFile (onFile file (pass step (held file))) standing (record { file = out; sent = sent }) b c
+  unfolding places
+  sofar-all standing b i sent out c s e =
+      let n = length-held file tidy in
+      let t : take i (held file) ≡ held file = take-all i (held file) (omega arith) in
+      let m : length (held file) ≡ i = omega (arith, s .within) in
+      let w : drop i (file .orders) ≡ replicate (mostOrders - length (pass step (held file) .orders)) blank =
+      ap (drop i) (tidy .whole) ∙ drop-at (held file) (replicate (mostOrders - length (held file)) blank) i m
+      ∙ ap (λ (k : ℕ). replicate (mostOrders - k) blank) (sym (length-pass step 0 (held file))) in
+      record {
+        file =
+            s .here ∙ ap (λ (l : List Order). withPlaces file (file .count) (pass step l .orders ++ drop i (file .orders))) t
+            ∙ ap₂ (withPlaces file) (sym n ∙ sym (length-pass step 0 (held file))) (ap (λ (l : List Order). pass step (held file) .orders ++ l) w);
+        wrote = subst (λ (l : List Order). Writes standing b c sent (pass step l .notices)) t (s .wrote);
+      }

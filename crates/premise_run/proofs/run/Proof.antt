@@ -1,0 +1,93 @@
+-- `premise_run::run` meets its contract. The loop's invariant: the orders before the one reached are done, their notices sent.
+-- The measure is the places left. Assumes nothing.
+use Prim.Native.Nat.{ℕ, _-_}
+use borrow.Author.Needs.{needs}
+use Rattle.premise.specs.declared.Order.{Order}
+use Rattle.premise.specs.Orders.{held}
+use Rattle.premise.specs.Passes.{Change}
+use Rattle.premise_run.specs.Which.{stepOf}
+use Rattle.premise_run.proofs.Turns.{Sofar, sofar-none, sofar-length, sofar-room, sofar-turn, sofar-all}
+use Rattle.premise_run.proofs.run.Statement.{statement}
+use Rattle.premise_run.proofs.run.Tie as tie
+
+abbrev Inv-loop : tie.InvT-loop
+Inv-loop which calendar today standing buffer₀ file n out₀ sent₀ i₀ buffer out sent i =
+    Sofar (stepOf which calendar today (file .premise) (file .retailer) (held file)) file standing buffer₀ i sent out buffer
+
+abbrev μ-loop : tie.MeasureT-loop
+μ-loop which calendar today standing buffer₀ file n out₀ sent₀ i₀ buffer out sent i = n - i
+
+-- the step, as the loop has it
+abbrev step : tie.At-loop Inv-loop μ-loop → ℕ → Order → Change
+step l =
+    let a = l .before .before .before .args in
+    stepOf (a .which) (a .calendar .now) (a .today) (a .t4 .premise) (a .t4 .retailer) (held (a .t4))
+
+loop-holds : tie.Need-loop-holds Inv-loop μ-loop
+loop-holds c = sofar-none _ _ _ _
+
+mul-o : tie.Need-mul-o Inv-loop μ-loop
+mul-o c = search needs
+
+element-copy-out-o : tie.Need-element-copy-out-o Inv-loop μ-loop
+element-copy-out-o c = search needs
+
+change-requires : tie.Need-change-requires Inv-loop μ-loop
+change-requires c κs =
+    let l = c .before .before .before in
+    let s = l .before .before .before in
+    let a = s .args in
+    (s .pre .0, sofar-room (step l) (a .t4) (s .pre .0) (a .standing) (a .buffer .now) (s .pre .1) (l .loop .i) (l .loop .sent) (l .loop .out) (l .loop .buffer) (l .loop .inv) (c .before .before .loop-test .taken))
+
+mul-t : tie.Need-mul-t Inv-loop μ-loop
+mul-t c = search needs
+
+element-set-from-t : tie.Need-element-set-from-t Inv-loop μ-loop
+element-set-from-t c = search needs
+
+add-i : tie.Need-add-i Inv-loop μ-loop
+add-i c = search needs
+
+loop-less : tie.Need-loop-less Inv-loop μ-loop
+loop-less c = search needs
+
+loop-again : tie.Need-loop-again Inv-loop μ-loop
+loop-again c =
+    let k = c .before .before .before in
+    let l = k .before .before .before .before in
+    let s = l .before .before .before in
+    let a = s .args in
+    sofar-turn (step l) (a .t4) (s .pre .0) (a .standing) (a .buffer .now) (s .pre .1) (l .loop .i) (l .loop .sent) (l .loop .out) (l .loop .buffer) (l .loop .inv) (k .before .before .before .loop-test .taken)
+    (k .change .result) _ (k .change .ensures)
+
+same-length : tie.Need-same-length Inv-loop μ-loop
+same-length c =
+    let l = c .before in
+    let s = l .before .before .before in
+    let a = s .args in
+    sofar-length (step l) (a .t4) (s .pre .0) (a .standing) (a .buffer .now) (s .pre .1) (l .loop .i) (l .loop .sent) (l .loop .out) (l .loop .buffer) (l .loop .inv)
+
+returns : tie.Need-returns Inv-loop μ-loop
+returns c =
+    let l = c .before in
+    let s = l .before .before .before in
+    let a = s .args in
+    sofar-all (step l) (a .t4) (s .pre .0) (a .standing) (a .buffer .now) (l .loop .i) (l .loop .sent) (l .loop .out) (l .loop .buffer) (l .loop .inv) (c .loop-test .left)
+
+pub run-spec : {M : Type 1} → statement M
+run-spec =
+    tie.close
+    (tie.spec
+    Inv-loop
+    μ-loop
+    loop-holds
+    mul-o
+    element-copy-out-o
+    change-requires
+    mul-t
+    element-set-from-t
+    add-i
+    loop-less
+    loop-again
+    same-length
+    returns)

@@ -1,0 +1,78 @@
+// The premise layer, inner: whether a place is unused: a place of a file, those after its orders, a file's place in the book. Every field
+// is looked at, and each function leaves at the first that is not zero.
+ghost use mathlib.Core.Path.{_≡_};
+ghost use Prim.Native.Nat.{_≤_};
+ghost use lib.ListN.{drop};
+ghost use Rattle.lists.specs.Search.{allOf};
+ghost use Rattle.premise.specs.Orders.{mostOrders};
+ghost use Rattle.premise.specs.WellKept.{isBlank, fileBlank};
+use premise::File;
+use premise::Order;
+
+// Whether a place is unused: zero in every field.
+fn is_blank(o: Order) -> bool
+    ensures { λ r. ⌜ r ≡ isBlank o ⌝ }
+{
+    if o.reference != 0 {
+        return false;
+    }
+    if o.kind != 0 {
+        return false;
+    }
+    if o.retailer != 0 {
+        return false;
+    }
+    if o.requested != 0 {
+        return false;
+    }
+    if o.scheduled != 0 {
+        return false;
+    }
+    if o.status != 0 {
+        return false;
+    }
+    let waited = o.waited;
+    if waited.0 != 0 {
+        return false;
+    }
+    let pending = o.pending;
+    if pending.0 != 0 {
+        return false;
+    }
+    o.told == 0
+}
+
+// Whether the places after the orders are unused.
+pub fn rest_blank(file: File) -> bool
+    requires { ⌜ file .count ≤ mostOrders ⌝ }
+    ensures { λ r. ⌜ r ≡ allOf isBlank (drop (file .count) (file .orders)) ⌝ }
+{
+    let mut i = file.count;
+    while i < premise::MOST_ORDERS {
+        let o = file.orders[i];
+        if !is_blank(o) {
+            return false;
+        }
+        i += 1;
+    }
+    true
+}
+
+// Whether an unused place of the book is zero in every field.
+pub fn file_blank(file: File) -> bool
+    ensures { λ r. ⌜ r ≡ fileBlank file ⌝ }
+{
+    if file.premise != 0 {
+        return false;
+    }
+    if file.retailer != 0 {
+        return false;
+    }
+    if file.since != 0 {
+        return false;
+    }
+    if file.count != 0 {
+        return false;
+    }
+    rest_blank(file)
+}

@@ -1,0 +1,57 @@
+-- `record_kinds::named_order_holds` meets its contract: in each arm the kind picks the case of `wellFormed`. Assumes nothing.
+use borrow.Author.Needs.{needs}
+use native.Mathlib.Omega.{arith}
+use mathlib.Core.Path.{_≡_, sym, _∙_}
+use mathlib.Core.Logic.{⊎-elim}
+use Rattle.records.specs.Records.{kindScheduled, kindRead, kindCancel, kindReply}
+use Rattle.records.proofs.Records.{formed-at, formed-undated}
+use Rattle.record_kinds.proofs.named_order_holds.Statement.{statement}
+use Rattle.record_kinds.proofs.named_order_holds.Tie as tie
+
+dated-holds-requires : tie.Need-dated-holds-requires
+dated-holds-requires c κs = search needs
+
+dated-holds-requires-2 : tie.Need-dated-holds-requires-2
+dated-holds-requires-2 c κs = search needs
+
+cancel-holds-requires : tie.Need-cancel-holds-requires
+cancel-holds-requires c κs = search needs
+
+undated-holds-requires : tie.Need-undated-holds-requires
+undated-holds-requires c κs = search needs
+
+reply-holds-requires : tie.Need-reply-holds-requires
+reply-holds-requires c κs = search needs
+
+returns : tie.Need-returns
+returns c = c .dated-holds .ensures ∙ sym (formed-at kindScheduled _ (c .before .match .keys1))
+
+returns-2 : tie.Need-returns-2
+returns-2 c = c .dated-holds2 .ensures ∙ sym (formed-at kindRead _ (c .before .match .keys2))
+
+returns-3 : tie.Need-returns-3
+returns-3 c = c .cancel-holds .ensures ∙ sym (formed-at kindCancel _ (c .before .match .keys3))
+
+returns-4 : tie.Need-returns-4
+returns-4 c = c .undated-holds .ensures ∙ sym (formed-undated _ (omega arith) (omega arith))
+
+returns-5 : tie.Need-returns-5
+returns-5 c =
+    let kind = c .before .before .before .args .fields .kind in
+    let last : kind ≡ kindReply = ⊎-elim (λ w. omega arith) (λ w. omega arith) (c .before .if1 .came) in
+    c .reply-holds .ensures ∙ sym (formed-at kindReply _ last)
+
+pub named-order-holds-spec : {M : Type 1} → statement M
+named-order-holds-spec =
+    tie.close
+    (tie.spec
+    dated-holds-requires
+    dated-holds-requires-2
+    cancel-holds-requires
+    undated-holds-requires
+    reply-holds-requires
+    returns
+    returns-2
+    returns-3
+    returns-4
+    returns-5)

@@ -1,0 +1,66 @@
+-- `stored_tapes::main`: two arguments a turn, so that the arguments come to an end.
+use Prim.Native.Nat.{_-_}
+use borrow.Author.Needs.{needs}
+use Rattle.stored_tapes.proofs.main.Statement.{statement}
+use Rattle.stored_tapes.proofs.main.Tie as tie
+use Rattle.stored_tapes.proofs.main.Reads as reads
+use Rattle.stored_tapes.proofs.main.Lts as lts
+use Rattle.os.proofs.arg_count.Reads as arg-count-reads
+use Rattle.stored_tapes.proofs.play_stored.Reads as play-stored-reads
+
+abbrev Inv-loop : tie.InvT-loop
+Inv-loop count i₀ i = Unit {0}
+
+abbrev μ-loop : tie.MeasureT-loop
+μ-loop count i₀ i = count - i
+
+arg-count-requires : tie.Need-arg-count-requires Inv-loop μ-loop
+arg-count-requires c κs = search needs
+
+loop-holds : tie.Need-loop-holds Inv-loop μ-loop
+loop-holds c = search needs
+
+sub-if1 : tie.Need-sub-if1 Inv-loop μ-loop
+sub-if1 c = search needs
+
+returns : tie.Need-returns Inv-loop μ-loop
+returns c = search needs
+
+add-play-stored : tie.Need-add-play-stored Inv-loop μ-loop
+add-play-stored c = search needs
+
+play-stored-requires : tie.Need-play-stored-requires Inv-loop μ-loop
+play-stored-requires c κs = search needs
+
+returns-2 : tie.Need-returns-2 Inv-loop μ-loop
+returns-2 c = search needs
+
+add-i : tie.Need-add-i Inv-loop μ-loop
+add-i c = search needs
+
+loop-less : tie.Need-loop-less Inv-loop μ-loop
+loop-less c = search needs
+
+loop-again : tie.Need-loop-again Inv-loop μ-loop
+loop-again c = search needs
+
+returns-3 : tie.Need-returns-3 Inv-loop μ-loop
+returns-3 c = search needs
+
+pub main-spec : {M : Type 1} → statement M
+main-spec =
+    tie.close
+    (tie.spec
+    Inv-loop
+    μ-loop
+    arg-count-requires
+    loop-holds
+    sub-if1
+    returns
+    add-play-stored
+    play-stored-requires
+    returns-2
+    add-i
+    loop-less
+    loop-again
+    returns-3)

@@ -1,0 +1,46 @@
+// The tape program: reads the first 4,096 bytes of calendar.bin (absent counts as empty), plays the first 65,520 bytes of standard input
+// over a fresh book at day 0, and prints what the calls gave. What it prints is proved in `tape_player`; here it is read and written.
+
+// Says on standard error what went wrong and what to do.
+fn complain(what: &[u8], advice: &[u8]) {
+    os::fail(what);
+    io::write_all(libc::STDERR_FILENO, advice);
+}
+
+fn main() {
+    let mut calendar = [0u8; tape_io::CALENDAR_BYTES];
+    let days = tape_io::read_file(b"calendar.bin", &mut calendar);
+    if days.failed {
+        complain(
+            b"tape: cannot read calendar.bin in the current folder",
+            b"tape: nothing was played; make it a readable file, or remove it to play with an empty calendar\n",
+        );
+        return;
+    }
+    let mut tape = [0u8; tape_io::TAPE_BYTES];
+    let read = tape_io::read_up_to(libc::STDIN_FILENO, &mut tape);
+    if read.failed {
+        complain(
+            b"tape: cannot read the tape from standard input",
+            b"tape: nothing was played; give a readable file or pipe, as in: tape < TAPE\n",
+        );
+        return;
+    }
+    let mut notices = [0u8; 24_576];
+    let mut out = [0u8; tape_io::TEXT_BYTES];
+    let days_read = days.count;
+    let bytes_read = read.count;
+    // a part is written `0..n`, so that the prover finds its length by itself
+    let written = tape_io::play(
+        &calendar[0..days_read],
+        &tape[0..bytes_read],
+        &mut notices,
+        &mut out,
+    );
+    if !written {
+        complain(
+            b"tape: cannot write to standard output",
+            b"tape: the output is not whole; make room or give another place, and play the tape again\n",
+        );
+    }
+}

@@ -1,0 +1,9 @@
+pub mod Calls
+pub mod Lines
+pub mod Putting
+pub mod Listed
+pub mod Filed
+pub mod Records
+pub mod Left
+pub mod Stretches
+pub mod Stretching

@@ -1,4 +1,2 @@
 pub mod Tidy
 pub mod Before
-pub mod Marks
-pub mod WellKept

@@ -1,5 +1,6 @@
 -- Document 01, "Evaluation", its first line: the window.
 use Prim.Native.Nat.{ℕ, zero, suc, _+_, _-_}
+use mathlib.Core.Path.{_≡_}
 use mathlib.Core.List.{List}
 use mathlib.Core.Bool.{Bool, true, false, cond, _&&_}
 use lib.Dec.{leb}
@@ -21,3 +22,7 @@ windowWidth = 2
 -- In window: the scheduled day is a day, and at most width business days d have today ≤ d < scheduled.
 unfoldable pub inWindow : List ℕ → ℕ → ℕ → ℕ → Bool
 inWindow calendar width today scheduled = isDay scheduled && leb (businessDays calendar today scheduled) width
+
+-- The last day in window: a scheduled day is in window exactly up to it. So the window is looked for once, and not for every order.
+abbrev pub LastInWindow : List ℕ → ℕ → ℕ → ℕ → Type 0
+LastInWindow calendar width today last = (scheduled : ℕ) → inWindow calendar width today scheduled ≡ leb scheduled last

@@ -1,8 +1,8 @@
 // The days layer. A calendar is lent bytes, one per day; each function answers for every calendar and every day number.
-// Its face: `is_day`, `kind_of_day`, `is_business_day`, `switch_date`, `in_window`, and the numbers below.
+// Its face: `is_day`, `kind_of_day`, `is_business_day`, `switch_date`, `in_window`, `last_in_window`, and the numbers below.
 ghost use mathlib.Core.Path.{_≡_};
 ghost use Rattle.days.specs.Days.{isDay, kindOfDay, isBusinessDay, switchDate};
-ghost use Rattle.days.specs.Window.{inWindow};
+ghost use Rattle.days.specs.Window.{inWindow, LastInWindow};
 
 // The last day that there is.
 pub const LAST_DAY: u16 = 4095;
@@ -75,4 +75,22 @@ pub fn in_window(calendar: &[u8], width: u8, today: u16, scheduled: u16) -> bool
         day += 1;
     }
     true
+}
+
+// The last day in window: the business day with which one too many would lie before the next, or the last day that there is.
+pub fn last_in_window(calendar: &[u8], width: u8, today: u16) -> u16
+    ensures { λ r. ⌜ LastInWindow (now (calendar .entry)) width today r ⌝ }
+{
+    let mut allowed = width;
+    let mut day = today;
+    while day < LAST_DAY {
+        if is_business_day(calendar, day) {
+            if allowed == 0 {
+                return day;
+            }
+            allowed -= 1;
+        }
+        day += 1;
+    }
+    LAST_DAY
 }

@@ -39,12 +39,13 @@ pub fn accept_order(
     requires { ⌜ Tidy file × (eqb (countOf isOpen (held file)) mostOrders ≡ false) × (requested ≡ requestedDay (now calendar) today r) × Room standing (followed (ordered (now calendar) today file r) (evaluated (now calendar) today) .notices) (now buffer) ⌝ }
     ensures { λ p. ⌜ DoneToFile (followed (ordered (now (calendar .entry)) today file r) (evaluated (now (calendar .entry)) today)) standing p (now (buffer .entry)) (now (buffer .exit)) ⌝ }
 {
+    let last = days::last_in_window(calendar, days::WINDOW_WIDTH, today);
     let o = premise_new_order::new_order(calendar, today, r, requested);
     let code = code_for(r.detail);
     let n = premise_notices::notice_on(code, file.premise, records::TDSP, o);
     let f = premise_stack::admit(file, o);
     let sent = premise_notices::send(standing, n, buffer);
-    premise_passes::evaluate(calendar, today, f, sent, buffer)
+    premise_passes::evaluate(calendar, today, last, f, sent, buffer)
 }
 
 // An accepted record of kinds 4 to 9 on the order at a place: the order changes, and the file is evaluated.
@@ -60,10 +61,11 @@ pub fn accept_named(
     requires { ⌜ Tidy file × (i < file .count) × Room standing (followed (changed file r i (getD (held file) i blank)) (evaluated (now calendar) today) .notices) (now buffer) ⌝ }
     ensures { λ p. ⌜ DoneToFile (followed (changed file r i (getD (held file) i blank)) (evaluated (now (calendar .entry)) today)) standing p (now (buffer .entry)) (now (buffer .exit)) ⌝ }
 {
+    let last = days::last_in_window(calendar, days::WINDOW_WIDTH, today);
     let o = file.orders[i];
     let s = premise_records::change_order(file, r, o, standing, buffer);
     let t = s.order;
     let f = premise_named::supply(file, r, o);
     let g = premise_orders::with_order(f, i, t);
-    premise_passes::evaluate(calendar, today, g, s.sent, buffer)
+    premise_passes::evaluate(calendar, today, last, g, s.sent, buffer)
 }

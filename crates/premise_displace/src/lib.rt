@@ -42,7 +42,7 @@ fn any_switch_on(file: File, day: u16) -> bool
 }
 
 // Whether an order is a drop that a switch displaces.
-fn is_displaced(calendar: &[u8], today: u16, file: File, o: Order) -> bool
+pub fn is_displaced(calendar: &[u8], today: u16, file: File, o: Order) -> bool
     requires { ⌜ Tidy file ⌝ }
     ensures { λ r. ⌜ r ≡ displaced (now (calendar .entry)) today (held file) o ⌝ }
 {
@@ -121,7 +121,7 @@ fn any_overtakes(today: u16, file: File, requested: u16) -> bool
 }
 
 // Whether an order is a Permit Pending move in that another overtook.
-fn is_overtaken(today: u16, file: File, o: Order) -> bool
+pub fn is_overtaken(today: u16, file: File, o: Order) -> bool
     requires { ⌜ Tidy file ⌝ }
     ensures { λ r. ⌜ r ≡ overtaken today (held file) o ⌝ }
 {

@@ -1,4 +1,5 @@
 // The premise layer, inner: the clock and the evaluation on a file, and the day mark.
+ghost use Rattle.days.specs.Window.{windowWidth, LastInWindow};
 ghost use Rattle.premise.specs.Orders.{held};
 ghost use Rattle.premise.specs.Passes.{onFile};
 ghost use Rattle.premise.specs.Clock.{clock};
@@ -24,18 +25,19 @@ fn wind(calendar: &[u8], today: u16, file: File, standing: usize, buffer: &mut [
     }
 }
 
-// The evaluation of a file. A file with nothing in window and no permit pending is left alone: most files are.
+// The evaluation of a file, by the last day in window, which the caller looks for once for many files. One with no order that a pass would change is left alone: most files are.
 pub fn evaluate(
     calendar: &[u8],
     today: u16,
+    last: u16,
     file: File,
     standing: usize,
     buffer: &mut [u8],
 ) -> Passed
-    requires { ⌜ Tidy file × Room standing (evaluated (now calendar) today file .notices) (now buffer) ⌝ }
+    requires { ⌜ Tidy file × Room standing (evaluated (now calendar) today file .notices) (now buffer) × LastInWindow (now calendar) windowWidth today last ⌝ }
     ensures { λ r. ⌜ DoneToFile (evaluated (now (calendar .entry)) today file) standing r (now (buffer .entry)) (now (buffer .exit)) ⌝ }
 {
-    if !premise_quiet::any_stirs(calendar, today, file) {
+    if !premise_quiet::any_stirs(calendar, today, last, file) {
         return Passed {
             file: file,
             sent: standing,
@@ -51,11 +53,18 @@ pub fn evaluate(
 }
 
 // The day mark on a file, by the new day: the clock, then the evaluation.
-pub fn mark(calendar: &[u8], today: u16, file: File, standing: usize, buffer: &mut [u8]) -> Passed
-    requires { ⌜ Tidy file × Room standing (marked (now calendar) today file .notices) (now buffer) ⌝ }
+pub fn mark(
+    calendar: &[u8],
+    today: u16,
+    last: u16,
+    file: File,
+    standing: usize,
+    buffer: &mut [u8],
+) -> Passed
+    requires { ⌜ Tidy file × Room standing (marked (now calendar) today file .notices) (now buffer) × LastInWindow (now calendar) windowWidth today last ⌝ }
     ensures { λ r. ⌜ DoneToFile (marked (now (calendar .entry)) today file) standing r (now (buffer .entry)) (now (buffer .exit)) ⌝ }
 {
     let wound = wind(calendar, today, file, standing, buffer);
     let f = wound.file;
-    evaluate(calendar, today, f, wound.sent, buffer)
+    evaluate(calendar, today, last, f, wound.sent, buffer)
 }

@@ -74,7 +74,7 @@ fn kept_place(file: File, day: u16) -> Found
 }
 
 // Whether the order at a place gives way to the switch that is kept for its day.
-fn gives_way(calendar: &[u8], today: u16, file: File, i: usize, o: Order) -> bool
+pub fn gives_way(calendar: &[u8], today: u16, file: File, i: usize, o: Order) -> bool
     requires { ⌜ Tidy file ⌝ }
     ensures { λ r. ⌜ r ≡ (contends (now (calendar .entry)) today o && not (isAt (kept (now (calendar .entry)) today (held file) (o .scheduled)) i)) ⌝ }
 {

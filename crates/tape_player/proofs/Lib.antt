@@ -3,7 +3,9 @@ pub mod Lines
 pub mod Putting
 pub mod Listed
 pub mod Filed
+pub mod Telling
 pub mod Records
 pub mod Left
 pub mod Stretches
 pub mod Stretching
+pub mod Turns

@@ -1,17 +1,17 @@
 // The tape program's work: a tape is played in stretches, each into a buffer for the text. What the text is stands in specs/Output.antt;
 // that the stretches, one after another, are the whole output stands in specs/Stretches.antt.
 ghost use mathlib.Core.Path.{_≡_};
-ghost use Prim.Native.Nat.{_+_, _*_, _≤_, _<_, min};
+ghost use Prim.Native.Nat.{_+_, _*_, _≤_, min};
+ghost use mathlib.Core.List.{_++_};
 ghost use lib.ListN.{length};
 ghost use Rattle.records.specs.Layout.{recordLength};
 ghost use Rattle.records.specs.Notices.{rows};
 ghost use Rattle.premise.specs.Refusals.{number};
-ghost use Rattle.book.specs.Calls.{noticeBytes};
-ghost use Rattle.tape_text.specs.Text.{Puts};
-ghost use Rattle.tape_text.specs.Lengths.{noticeLineMost};
-ghost use Rattle.tape_reader.specs.Counts.{mostRecords};
-ghost use Rattle.tape_player.specs.Output.{starting, rowLines, recordText, playedOn, ending, tapeMost};
-ghost use Rattle.tape_player.specs.Stretches.{recordTextMost, endingMost, stretch, left, Ready, Roomy, Shows, Plays};
+ghost use Rattle.tape_text.specs.Text.{recordLine, Puts};
+ghost use Rattle.tape_text.specs.Lengths.{mostNotices, noticeLineMost};
+ghost use Rattle.tape_reader.specs.Counts.{counted, Within};
+ghost use Rattle.tape_player.specs.Output.{starting, rowLines, ending, tapeMost};
+ghost use Rattle.tape_player.specs.Stretches.{recordTextMost, endingMost, stretch, left, Ready, Roomy, Plays};
 use book::Book;
 use premise::Answer;
 use tape_reader::Reader;
@@ -28,7 +28,13 @@ pub struct Playing {
     pub book: Book,
 }
 
-// A tape after a record, and where its text stops.
+// A reader after a record, and where the record's text stops.
+pub struct Told {
+    pub reader: Reader,
+    pub stop: usize,
+}
+
+// A tape after a record, and where its text stops: what a turn of a stretch comes to.
 pub struct Shown {
     pub playing: Playing,
     pub stop: usize,
@@ -100,33 +106,25 @@ fn put_notices(notices: &[u8], n: usize, start: usize, out: &mut [u8]) -> usize
     at
 }
 
-// A record is played: the call, and its text. The notices of the call are read back from its buffer.
-fn play_record(
-    calendar: &[u8],
-    p: Playing,
-    bytes: &[u8],
+// A record's text, after its call: the reader counts the record, and its line and those of its notices are put. The notices are read
+// back from the call's buffer.
+fn show(
+    reader: Reader,
+    answer: Answer,
+    sent: usize,
     start: usize,
-    notices: &mut [u8],
+    notices: &[u8],
     out: &mut [u8],
-) -> Shown
-    requires { ⌜ Ready p × (p .reader .place < mostRecords) × (noticeBytes ≤ length (now notices)) × (start + recordTextMost ≤ length (now out)) ⌝ }
-    ensures { λ s. ⌜ Shows (playedOn (now (calendar .entry)) p (now (bytes .entry))) (recordText (now (calendar .entry)) p (now (bytes .entry))) start s (now (out .entry)) (now (out .exit)) ⌝ }
+) -> Told
+    requires { ⌜ Within reader × (sent ≤ mostNotices) × (recordLength * sent ≤ length (now notices)) × (start + recordTextMost ≤ length (now out)) ⌝ }
+    ensures { λ t. ⌜ (t .reader ≡ counted reader (number answer)) × Puts start (now (out .entry)) (now (out .exit)) (t .stop) (recordLine (t .reader .place) (number answer) sent ++ rowLines (rows sent (now (notices .entry)))) ⌝ }
 {
-    let b = p.book;
-    let reply = book_calls::kept_call(calendar, b, bytes, notices);
-    let answer = reply.answer;
     let number = number_of(answer);
-    let last = p.reader;
-    let reader = tape_reader::advanced(last, number);
-    let at = tape_text::put_record(reader.place, number, reply.sent, start, out);
-    let stop = put_notices(notices, reply.sent, at, out);
-    let c = reply.book;
-    let q = Playing {
-        reader: reader,
-        book: c,
-    };
-    Shown {
-        playing: q,
+    let next = tape_reader::advanced(reader, number);
+    let at = tape_text::put_record(next.place, number, sent, start, out);
+    let stop = put_notices(notices, sent, at, out);
+    Told {
+        reader: next,
         stop: stop,
     }
 }
@@ -149,7 +147,8 @@ fn put_ending(p: Playing, start: usize, out: &mut [u8]) -> usize
     tape_text::put_total(reader.accepted, reader.refused, at, out)
 }
 
-// A stretch of a tape: record by record, as long as the text of any record finds room; then the end, where that finds room.
+// A stretch of a tape: record by record, as long as the text of any record finds room; then the end, where that finds room. The book
+// stays where it is: a record on a premise that is held changes that premise's file alone, and only any other record hands the book over.
 pub fn play_on(
     calendar: &[u8],
     p: Playing,
@@ -160,23 +159,54 @@ pub fn play_on(
     requires { ⌜ Ready p × (length (now tape) ≤ tapeMost) × Roomy (now notices) (now out) ⌝ }
     ensures { λ r. ⌜ Plays (stretch (now (calendar .entry)) (length (now (out .entry))) p (left p (now (tape .entry)))) r (now (out .entry)) (now (out .exit)) ⌝ }
 {
-    let mut q = p;
+    let mut b = p.book;
+    let mut reader = p.reader;
+    let mut numbers = book_held::premises(b);
     let mut stop: usize = 0;
-    let mut from = 24 * q.reader.place;
+    let mut from = 24 * reader.place;
     while from < tape.len() {
         if out.len() - stop < MOST_RECORD_TEXT {
+            let q = Playing {
+                reader: reader,
+                book: b,
+            };
             return Stretch {
                 playing: q,
                 stop: stop,
                 done: false,
             };
         }
-        let to = least(from + 24, tape.len());
-        let s = play_record(calendar, q, &tape[from..to], stop, notices, out);
-        q = s.playing;
-        stop = s.stop;
-        from = from + 24;
+        let first = from;
+        let to = least(first + 24, tape.len());
+        from = first + 24;
+        let count = b.count;
+        let bytes = &tape[first..to];
+        let l = book_held::look_up(bytes, &numbers, count);
+        if l.held {
+            let at = l.at;
+            let f = b.files[at];
+            let r = l.fields;
+            let h = book_held::held_call(calendar, b.today, f, r, notices);
+            let g = h.file;
+            b.files[at] = g;
+            let answer = h.answer;
+            let t = show(reader, answer, h.sent, stop, notices, out);
+            reader = t.reader;
+            stop = t.stop;
+        } else {
+            let reply = book_calls::kept_call(calendar, b, bytes, notices);
+            let answer = reply.answer;
+            let t = show(reader, answer, reply.sent, stop, notices, out);
+            b = reply.book;
+            reader = t.reader;
+            stop = t.stop;
+            numbers = book_held::premises(b);
+        }
     }
+    let q = Playing {
+        reader: reader,
+        book: b,
+    };
     if out.len() - stop < MOST_ENDING {
         return Stretch {
             playing: q,

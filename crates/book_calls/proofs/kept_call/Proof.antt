@@ -3,7 +3,8 @@ use borrow.Author.Needs.{needs}
 use Rattle.premise.specs.declared.Answer.the-variants.{ShortBuffer}
 use Rattle.book.specs.Calls.{refusal}
 use Rattle.book.proofs.Kept.{book-kept-means}
-use Rattle.book_calls.proofs.Calls.{gives-refusal, promised, call-short}
+use Rattle.book_replies.proofs.Refusals.{gives-refusal, promised}
+use Rattle.book_calls.proofs.FirstRows.{call-short}
 use Rattle.book_calls.proofs.kept_call.Statement.{statement}
 use Rattle.book_calls.proofs.kept_call.Tie as tie
 

@@ -1,11 +1,13 @@
 -- `book_calls::record_call` meets its contract: row 1, row 2, and then the record on a book that is well kept. Assumes nothing.
 use mathlib.Core.Path.{sym, _∙_}
+use native.Mathlib.Omega.{arith}
 use borrow.Author.Needs.{needs}
 use borrow.Author.Tests.{not-true, not-false}
 use Rattle.premise.specs.declared.Answer.the-variants.{ShortBuffer, NotWellKept}
 use Rattle.book.specs.Calls.{refusal}
 use Rattle.book.proofs.Kept.{book-kept-means}
-use Rattle.book_calls.proofs.Calls.{gives-refusal, promised, call-short, call-unkept}
+use Rattle.book_replies.proofs.Refusals.{gives-refusal, promised}
+use Rattle.book_calls.proofs.FirstRows.{call-short, call-unkept}
 use Rattle.book_calls.proofs.record_call.Statement.{statement}
 use Rattle.book_calls.proofs.record_call.Tie as tie
 
@@ -17,7 +19,7 @@ returns c =
     let s = c .before .before .before .before .before in
     let a = s .args in
     promised (a .calendar .now) (a .b) (a .bytes .now) (a .buffer .now) (refusal ShortBuffer (a .b)) (c .refuse .result) (a .buffer .now)
-    (call-short (a .calendar .now) (a .b) (a .bytes .now) (a .buffer .now) (c .before .if1 .taken))
+    (call-short (a .calendar .now) (a .b) (a .bytes .now) (a .buffer .now) (omega (arith, c .before .if1 .taken)))
     (gives-refusal ShortBuffer (a .b) (c .refuse .result) (a .buffer .now) (c .refuse .ensures))
 
 book-kept-requires : tie.Need-book-kept-requires

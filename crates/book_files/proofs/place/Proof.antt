@@ -34,7 +34,7 @@ returns c =
     let s = l .before in
     let b = s .args .t1 in
     let left = drop-part past (b .files) (b .count) (l .loop .i) (omega (arith, s .pre .few, length-files b (s .pre))) (search needs) in
-    omega (arith, before-here (s .args .premise) left (c .if1 .taken), l .loop .inv .2)
+    omega (arith, before-here (s .args .premise) left (omega (arith, c .if1 .taken)), l .loop .inv .2)
 
 add-i : tie.Need-add-i Inv-loop μ-loop
 add-i c = search needs

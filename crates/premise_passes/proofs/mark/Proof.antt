@@ -23,7 +23,7 @@ evaluate-requires c κs =
     let w = c .before .before .before .before in
     let s = w .before .before .before .before in
     let a = s .args in
-    (pass-tidy Clock (a .calendar .now) (a .today) (a .file) (s .pre .0) (a .standing) (w .wind .result) (a .buffer .now) (w .wind .last .1 .1 .1 .1 .0) (w .wind .ensures), then-room (onFile (a .file) (clock (a .calendar .now) (a .today) (a .file .premise) (held (a .file)))) (evaluated (a .calendar .now) (a .today)) (a .standing) (a .buffer .now) (s .pre .1) (w .wind .result) (w .wind .last .1 .1 .1 .1 .0) (w .wind .ensures))
+    (pass-tidy Clock (a .calendar .now) (a .today) (a .file) (s .pre .0) (a .standing) (w .wind .result) (a .buffer .now) (w .wind .last .1 .1 .1 .1 .0) (w .wind .ensures), then-room (onFile (a .file) (clock (a .calendar .now) (a .today) (a .file .premise) (held (a .file)))) (evaluated (a .calendar .now) (a .today)) (a .standing) (a .buffer .now) (s .pre .1) (w .wind .result) (w .wind .last .1 .1 .1 .1 .0) (w .wind .ensures), s .pre .2)
 
 same-length : tie.Need-same-length
 same-length c = search needs

@@ -1,5 +1,5 @@
 -- `premise_quiet::is_waiting` meets its contract: at each return the tests that led there pick the case of `waits`. Assumes nothing.
-use Rattle.premise_quiet.proofs.Quiet.{waits-review, waits-permit, waits-cancel}
+use Rattle.premise_quiet.proofs.Cases.{waits-review, waits-permit, waits-cancel}
 use Rattle.premise_quiet.proofs.is_waiting.Statement.{statement}
 use Rattle.premise_quiet.proofs.is_waiting.Tie as tie
 

@@ -1,0 +1,14 @@
+-- `book_premise_new::finds_no_place` meets its contract: the kind, then the count. Assumes nothing.
+use borrow.Author.Tests.{eq-eqb, ne-eqb}
+use Rattle.records.specs.Records.{kindCreate}
+use Rattle.book_premise_new.proofs.finds_no_place.Statement.{statement}
+use Rattle.book_premise_new.proofs.finds_no_place.Tie as tie
+
+returns : tie.Need-returns
+returns c = rw (ne-eqb _ kindCreate (c .if1 .taken))
+
+returns-2 : tie.Need-returns-2
+returns-2 c = rw (eq-eqb _ kindCreate (c .if1 .left))
+
+pub finds-no-place-spec : {M : Type 1} → statement M
+finds-no-place-spec = tie.close (tie.spec returns returns-2)

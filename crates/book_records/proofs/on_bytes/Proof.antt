@@ -1,0 +1,102 @@
+-- `book_records::on_bytes` meets its contract: row 3 for malformed bytes; else a day mark or a premise's record does what the call does.
+-- Assumes nothing.
+use mathlib.Core.Path.{sym, _∙_}
+use borrow.Author.Needs.{needs}
+use borrow.Author.Tests.{eq-eqb, ne-eqb}
+use Rattle.records.specs.Records.{kindDayMark}
+use Rattle.records.proofs.Records.{says}
+use Rattle.premise.specs.declared.Answer.the-variants.{MalformedRecord}
+use Rattle.book.specs.Calls.{refusal}
+use Rattle.book_replies.specs.Parts.{onDayMark, onOther}
+use Rattle.book_replies.proofs.Refusals.{gives-refusal, promised}
+use Rattle.book_records.proofs.Rows.{call-malformed, call-mark, call-other}
+use Rattle.book_records.proofs.on_bytes.Statement.{statement}
+use Rattle.book_records.proofs.on_bytes.Tie as tie
+
+read-record-requires : tie.Need-read-record-requires
+read-record-requires c κs = search needs
+
+enum-told : tie.Need-enum-told
+enum-told c = search needs
+
+refuse-requires : tie.Need-refuse-requires
+refuse-requires c κs = search needs
+
+enum-known-reading : tie.Need-enum-known-reading
+enum-known-reading c = search needs
+
+on-mark-requires : tie.Need-on-mark-requires
+on-mark-requires c κs = search needs
+
+same-length : tie.Need-same-length
+same-length c = search needs
+
+returns : tie.Need-returns
+returns c =
+    let m = c .before .before in
+    let t = m .before .before in
+    let d = t .before .before .before in
+    let w = d .before .before in
+    let s = w .before .before .before .before in
+    let a = s .args in
+    let r = d .reading .given .0 .0 in
+    promised (a .calendar .now) (a .b) (a .bytes .now) (a .buffer .now) (onDayMark (a .calendar .now) (a .b) r) (m .on-mark .result) _
+    (call-mark (a .calendar .now) (a .b) (a .bytes .now) (a .buffer .now) (s .pre .0) (s .pre .1) r (sym (w .read-record .ensures) ∙ d .reading .given .1) (eq-eqb (r .kind) kindDayMark (t .if1 .taken)))
+    (m .on-mark .ensures)
+
+on-premise-requires : tie.Need-on-premise-requires
+on-premise-requires c κs =
+    let t = c .before in
+    let d = t .before .before .before in
+    let w = d .before .before in
+    let s = w .before .before .before .before in
+    let a = s .args in
+    let r = d .reading .given .0 .0 in
+    record {
+      kept = s .pre .0;
+      formed = says (a .bytes .now) r (sym (w .read-record .ensures) ∙ d .reading .given .1) .formed;
+      other = ne-eqb (r .kind) kindDayMark (t .if1 .left);
+      room = s .pre .1;
+    }
+
+returns-2 : tie.Need-returns-2
+returns-2 c =
+    let d = c .before in
+    let w = d .before .before in
+    let s = w .before .before .before .before in
+    let a = s .args in
+    promised (a .calendar .now) (a .b) (a .bytes .now) (a .buffer .now) (refusal MalformedRecord (a .b)) (c .refuse .result) (a .buffer .now)
+    (call-malformed (a .calendar .now) (a .b) (a .bytes .now) (a .buffer .now) (s .pre .0) (s .pre .1) (sym (w .read-record .ensures) ∙ d .enum-told .given .1))
+    (gives-refusal MalformedRecord (a .b) (c .refuse .result) (a .buffer .now) (c .refuse .ensures))
+
+same-length-2 : tie.Need-same-length-2
+same-length-2 c = search needs
+
+returns-3 : tie.Need-returns-3
+returns-3 c =
+    let m = c .before .before in
+    let t = m .before .before in
+    let d = t .before .before .before in
+    let w = d .before .before in
+    let s = w .before .before .before .before in
+    let a = s .args in
+    let r = d .reading .given .0 .0 in
+    promised (a .calendar .now) (a .b) (a .bytes .now) (a .buffer .now) (onOther (a .calendar .now) (a .b) r) (m .on-premise .result) _
+    (call-other (a .calendar .now) (a .b) (a .bytes .now) (a .buffer .now) (s .pre .0) (s .pre .1) r (sym (w .read-record .ensures) ∙ d .reading .given .1) (ne-eqb (r .kind) kindDayMark (t .if1 .left)))
+    (m .on-premise .ensures)
+
+pub on-bytes-spec : {M : Type 1} → statement M
+on-bytes-spec =
+    tie.close
+    (tie.spec
+    read-record-requires
+    enum-told
+    refuse-requires
+    enum-known-reading
+    on-mark-requires
+    same-length
+    returns
+    on-premise-requires
+    returns-2
+    same-length-2
+    returns-3)

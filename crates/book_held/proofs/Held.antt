@@ -67,7 +67,6 @@ book-ready b bytes buffer r at past well e h room =
       formed = says bytes r e .formed;
       from = h .from;
       upto = h .upto;
-      own = h .own;
       room = room;
     }
 

@@ -21,13 +21,12 @@ use Rattle.book.specs.Laws.{OnHeld, withFileAt, numbersOf}
 use Rattle.book.specs.Promise.{Promised}
 use Rattle.book_held.specs.declared.HeldReply.{HeldReply}
 
--- what is asked: a well-kept file, a well-formed record of kinds 3 to 9 on its premise, and a long enough buffer
+-- what is asked: a well-kept file, a well-formed record of kinds 3 to 9, and a long enough buffer
 pub record HeldReady (file : File) (r : Record) (buffer : List ℕ) : Type 0 where
   pub kept : FileKept file
   pub formed : wellFormed r ≡ true
   pub from : kindNewOrder ≤ r .kind
   pub upto : r .kind ≤ kindReply
-  pub own : file .premise ≡ r .premise
   pub room : noticeBytes ≤ length buffer
 
 -- what the one-premise rules give on T and the file

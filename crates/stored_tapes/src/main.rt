@@ -2,8 +2,6 @@
 // tape's text stands a line with the tape's file name. `tapes/store` writes its data/, args and stdout, the latter with the second program.
 ghost use Prim.Native.Nat.{_≤_};
 ghost use lib.ListN.{length};
-ghost use Rattle.tape_player.specs.Output.{tapeMost};
-ghost use Rattle.tape_player.specs.Stretches.{Roomy};
 use tape_io::Got;
 
 // Says on standard error which file can't be read.
@@ -37,16 +35,7 @@ fn say_name(i: usize) {
 }
 
 // Plays the tape that one argument names with the calendar that another names; whether all went well.
-fn play_pair(
-    i: usize,
-    j: usize,
-    calendar: &mut [u8],
-    tape: &mut [u8],
-    notices: &mut [u8],
-    out: &mut [u8],
-) -> bool
-    requires { ⌜ (length (now tape) ≤ tapeMost) × Roomy (now notices) (now out) ⌝ }
-{
+fn play_pair(i: usize, j: usize, calendar: &mut [u8], tape: &mut [u8]) -> bool {
     let days = read_named(j, calendar);
     if days.failed {
         return false;
@@ -59,16 +48,14 @@ fn play_pair(
     let days_read = days.count;
     let bytes_read = read.count;
     // a part is written `0..n`, so that the prover finds its length by itself
-    tape_io::play(&calendar[0..days_read], &tape[0..bytes_read], notices, out)
+    tape_io::play(&calendar[0..days_read], &tape[0..bytes_read])
 }
 
 // Plays one pair in buffers of its own.
 fn play_stored(i: usize, j: usize) -> bool {
     let mut calendar = [0u8; tape_io::CALENDAR_BYTES];
     let mut tape = [0u8; tape_io::TAPE_BYTES];
-    let mut notices = [0u8; 24_576];
-    let mut out = [0u8; tape_io::TEXT_BYTES];
-    play_pair(i, j, &mut calendar, &mut tape, &mut notices, &mut out)
+    play_pair(i, j, &mut calendar, &mut tape)
 }
 
 fn main() {

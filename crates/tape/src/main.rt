@@ -26,17 +26,10 @@ fn main() {
         );
         return;
     }
-    let mut notices = [0u8; 24_576];
-    let mut out = [0u8; tape_io::TEXT_BYTES];
     let days_read = days.count;
     let bytes_read = read.count;
     // a part is written `0..n`, so that the prover finds its length by itself
-    let written = tape_io::play(
-        &calendar[0..days_read],
-        &tape[0..bytes_read],
-        &mut notices,
-        &mut out,
-    );
+    let written = tape_io::play(&calendar[0..days_read], &tape[0..bytes_read]);
     if !written {
         complain(
             b"tape: cannot write to standard output",

@@ -72,8 +72,9 @@ pub fn read_file(path: &[u8], buffer: &mut [u8]) -> Got
     got
 }
 
-// Plays a tape and writes its text to standard output, stretch by stretch; whether every write was taken.
-pub fn play(calendar: &[u8], tape: &[u8], notices: &mut [u8], out: &mut [u8]) -> bool
+// Plays a tape in the buffers that it is lent, and writes its text to standard output, stretch by stretch; whether every write was
+// taken.
+fn play_in(calendar: &[u8], tape: &[u8], notices: &mut [u8], out: &mut [u8]) -> bool
     requires { ⌜ (length (now tape) ≤ tapeMost) × Roomy (now notices) (now out) ⌝ }
 {
     let mut p = tape_player::start();
@@ -88,4 +89,24 @@ pub fn play(calendar: &[u8], tape: &[u8], notices: &mut [u8], out: &mut [u8]) ->
         }
         p = s.playing;
     }
+}
+
+// How many bytes of a tape are played.
+fn played_bytes(given: usize) -> usize
+    ensures { λ r. ⌜ (r ≤ given) × (r ≤ tapeMost) ⌝ }
+{
+    if given < TAPE_BYTES {
+        given
+    } else {
+        TAPE_BYTES
+    }
+}
+
+// Plays the first bytes of a tape and writes its text to standard output; whether every write was taken. It asks nothing: the buffers are
+// its own, and a longer tape is cut here and not by who calls it.
+pub fn play(calendar: &[u8], tape: &[u8]) -> bool {
+    let mut notices = [0u8; book::NOTICE_BYTES];
+    let mut out = [0u8; TEXT_BYTES];
+    let played = played_bytes(tape.len());
+    play_in(calendar, &tape[0..played], &mut notices, &mut out)
 }

@@ -3,6 +3,7 @@ ghost use mathlib.Core.Path.{_≡_};
 ghost use mathlib.Core.List.{_∷_};
 ghost use Prim.Native.Nat.{_+_, _≤_};
 ghost use lib.ListN.{length};
+ghost use Rattle.records.specs.Layout.{recordLength};
 ghost use Rattle.records.specs.Notices.{decode};
 ghost use Rattle.tape_text.specs.Text.{space, decimal, spaced, lettered, recordLine, noticeLine, fileLine, totalLine, Puts};
 use record_bytes::read_notice;
@@ -34,7 +35,7 @@ fn count_digits(n: u64) -> usize
 }
 
 // A number in base ten.
-pub fn put_number(n: u64, start: usize, out: &mut [u8]) -> usize
+fn put_number(n: u64, start: usize, out: &mut [u8]) -> usize
     requires { ⌜ start + length (decimal n) ≤ length (now out) ⌝ }
     ensures { λ r. ⌜ Puts start (now (out .entry)) (now (out .exit)) r (decimal n) ⌝ }
 {
@@ -95,7 +96,7 @@ pub fn put_record(place: usize, answer: u8, n: usize, start: usize, out: &mut [u
 
 // The line of a notice, read from its 24 bytes.
 pub fn put_notice(bytes: &[u8], start: usize, out: &mut [u8]) -> usize
-    requires { ⌜ (24 ≤ length (now bytes)) × (start + length (noticeLine (decode (now bytes))) ≤ length (now out)) ⌝ }
+    requires { ⌜ (recordLength ≤ length (now bytes)) × (start + length (noticeLine (decode (now bytes))) ≤ length (now out)) ⌝ }
     ensures { λ r. ⌜ Puts start (now (out .entry)) (now (out .exit)) r (noticeLine (decode (now (bytes .entry)))) ⌝ }
 {
     let notice = read_notice(bytes);

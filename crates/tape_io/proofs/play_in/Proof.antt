@@ -3,10 +3,10 @@ use borrow.Author.Needs.{needs}
 use native.Mathlib.Omega.{arith}
 use Rattle.tape_reader.specs.Counts.{mostRecords}
 use Rattle.tape_io.proofs.Stretches.{Between, between-first, text-stands, between-next, fewer-left}
-use Rattle.tape_io.proofs.play.Statement.{statement}
-use Rattle.tape_io.proofs.play.Tie as tie
-use Rattle.tape_io.proofs.play.Reads as reads
-use Rattle.tape_io.proofs.play.Lts as lts
+use Rattle.tape_io.proofs.play_in.Statement.{statement}
+use Rattle.tape_io.proofs.play_in.Tie as tie
+use Rattle.tape_io.proofs.play_in.Reads as reads
+use Rattle.tape_io.proofs.play_in.Lts as lts
 use Rattle.io.proofs.write_all.Reads as write-all-reads
 use Rattle.tape_player.proofs.play_on.Reads as play-on-reads
 use Rattle.tape_player.proofs.start.Reads as start-reads
@@ -64,8 +64,8 @@ loop-less c = fewer-left _ _ _ _ _ _ _ (c .before .before .before .before .befor
 loop-again : tie.Need-loop-again Inv-loop μ-loop
 loop-again c = between-next _ _ _ _ _ _ _ (c .before .before .before .before .before .before .before .before .before .before .before .before .before .loop .inv) _ _ (c .before .before .before .before .before .before .before .before .before .before .play-on .ensures) (c .before .before .before .before .before .before .before .before .before .before .play-on .kept .1 .1 .1 .1 .0) _ (c .before .before .before .before .before .before .before .before .before .before .play-on .kept .1 .1 .1 .0)
 
-pub play-spec : {M : Type 1} → statement M
-play-spec =
+pub play-in-spec : {M : Type 1} → statement M
+play-in-spec =
     tie.close
     (tie.spec
     Inv-loop

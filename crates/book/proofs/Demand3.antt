@@ -8,19 +8,19 @@ use native.Mathlib.Omega.{arith}
 use Rattle.days.specs.Days.{lastDay}
 use Rattle.records.specs.declared.Record.{Record}
 use Rattle.records.specs.Records.{reading}
-use Rattle.records.specs.Notices.{encode}
+use Rattle.records.specs.Notices.{encode, rows}
+use Rattle.records.proofs.Emits.{emits-rows}
 use Rattle.premise.specs.Refusals.{number}
 use Rattle.premise.specs.OnePremise.{State, Given, startState, step, runs, endState}
 use Rattle.book.specs.declared.Book.{Book}
 use Rattle.book.specs.Book.{filesOf, bookOf, freshBook, fileFor}
 use Rattle.book.specs.Calls.{premiseState, Result, call}
-use Rattle.book.specs.Demand3.{Made, Played, lastBook, Allowed, AllAllowed, Premise, concerns, ownBytes, said, records, answers, rowsOf, withPremise, noticesFor, ruledAnswers, ruledNotices, AsRuled, EachPremiseAlone, SameFor, ShuffleProof}
+use Rattle.book.specs.Demand3.{Made, Played, lastBook, Allowed, AllAllowed, Premise, concerns, ownBytes, said, records, answers, withPremise, noticesFor, ruledAnswers, ruledNotices, AsRuled, EachPremiseAlone, SameFor, ShuffleProof}
 use Rattle.book.specs.Promise.{Promised}
 use Rattle.book.proofs.Files.{rises-rising}
 use Rattle.book.proofs.SameFiles.{same-files}
 use Rattle.book.proofs.Kept.{book-kept-means, fresh-kept, holds-its-files}
 use Rattle.book.proofs.Keeps.{call-keeps}
-use Rattle.book.proofs.Picks.{rows-emitted}
 use Rattle.book.proofs.Acts.{acted, call-acts}
 use Rattle.book.proofs.OnWay.{OnWay, sound, ranged-acted}
 use Rattle.book.proofs.OneCall.{state-of, mine, Agrees, agrees}
@@ -91,9 +91,9 @@ module _ (calendar : List ℕ) where
 
     -- the notices of the premise that stand in the buffer on return
     call-told : (premise : ℕ)
-        → withPremise premise (rowsOf (m .reply .sent) (m .after)) ≡ ruledNotices (runs calendar (premiseState b premise) (mine premise (reading (m .bytes))))
+        → withPremise premise (rows (m .reply .sent) (m .after)) ≡ ruledNotices (runs calendar (premiseState b premise) (mine premise (reading (m .bytes))))
     call-told premise =
-        ap (withPremise premise) (rows-emitted (m .lent) (m .after) (m .reply .sent) (call calendar b (m .bytes) (m .lent) .notices) (p .notices)) ∙ call-agrees premise .told
+        ap (withPremise premise) (emits-rows (p .notices)) ∙ call-agrees premise .told
 
   alone : (premise : ℕ) (b : Book) (ms : List Made) → OnWay b → Played calendar b ms → AllAllowed b ms → Alone calendar premise b (premiseState b premise) ms
   alone premise b [] k p a = record { state = refl; answered = refl; told = refl }

@@ -73,7 +73,7 @@ module _ (b : Book) (k : BookKept b) where
 
     -- ---- any other record
     pub step-kept-file : wellFormed r ≡ true → Held (KeptFor (r .premise)) (step calendar (premiseState b (r .premise)) r .state .file)
-    step-kept-file w = step-keeps calendar (premiseState b (r .premise)) r (r .premise) (k .today) w (λ e. refl) (found-kept (r .premise))
+    step-kept-file w = step-keeps calendar (premiseState b (r .premise)) r (r .premise) w (λ e. refl) (found-kept (r .premise))
 
     -- a new file finds a place
     fits : (is kindCreate r && eqb (length (filesOf b)) mostFiles) ≡ false → (file : Option File) → step calendar (premiseState b (r .premise)) r .state .file ≡ file

@@ -21,7 +21,7 @@ use Rattle.book.specs.declared.Book.{Book}
 use Rattle.book.specs.Book.{filesOf, bookOf, withFile}
 use Rattle.book.specs.Calls.{premiseState, markedFiles, onMark, refusal}
 use Rattle.book.specs.Laws.{BookKept}
-use Rattle.book.specs.Demand3.{AreBytes, Premise}
+use Rattle.book.specs.Demand3.{Premise}
 use Rattle.book.proofs.SameFiles.{with-each}
 use Rattle.book.proofs.Kept.{holds-its-files}
 use Rattle.book.proofs.Marks.{marked-numbers}
@@ -37,10 +37,6 @@ pub record OnWay (b : Book) : Type 0 where
   pub ranged : InRange (filesOf b)
 
 -- ---- what a record's bytes rule out
-are-bytes : (xs : List ℕ) → AreBytes xs → Bytes xs
-are-bytes [] u = tt
-are-bytes (x ∷ xs) u = (u .0, are-bytes xs (u .1))
-
 -- of a reading: well formed, and its number in range unless it is a day mark
 pub record Sound (r : Record) : Type 0 where
   pub formed : wellFormed r ≡ true
@@ -50,7 +46,7 @@ abbrev pub SoundIn : Reading → Type 0
 SoundIn Malformed = Unit {0}
 SoundIn (Says r) = Sound r
 
-pub sound : (bytes : List ℕ) → AreBytes bytes → SoundIn (reading bytes)
+pub sound : (bytes : List ℕ) → Bytes bytes → SoundIn (reading bytes)
 sound bytes u = go (reading bytes) refl
   where
     go : (d : Reading) → reading bytes ≡ d → SoundIn d
@@ -59,7 +55,7 @@ sound bytes u = go (reading bytes) refl
         let s = says bytes r e in
         record {
           formed = s .formed;
-          ranged = λ t. record { above = has-premise r (s .formed) t; below = said-in-width bytes r (are-bytes bytes u) s .premise };
+          ranged = λ t. record { above = has-premise r (s .formed) t; below = said-in-width bytes r u s .premise };
         }
 
 ranged-of : (today : ℕ) (fs : List File) → InRange fs → InRange (filesOf (bookOf today fs))

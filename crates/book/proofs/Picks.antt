@@ -1,39 +1,24 @@
 -- The notices of one premise among those in a buffer: they are found by the number in their bytes. Assumes nothing.
-use Prim.Native.Nat.{ℕ, _*_}
+use Prim.Native.Nat.{ℕ}
 use mathlib.Core.Path.{_≡_, refl, ap, ap₂, sym, _∙_}
-use mathlib.Core.List.{List, [], _∷_, _++_, map, append-assoc, append-nil}
+use mathlib.Core.List.{List, [], _∷_, _++_, map, append-nil}
 use mathlib.Core.Bool.{Bool, true, false, cond}
 use native.Mathlib.Omega.{arith}
 use lib.Dec.{eqb}
-use lib.ListN.{length, take, drop}
-use lib.Seq.{take-at, drop-at}
 use borrow.Author.Tests.{eqb-true, eqb-false, eq-eqb, ne-eqb}
 use Rattle.lists.specs.Search.{Each}
 use Rattle.records.specs.declared.Notice.{Notice}
-use Rattle.records.specs.Layout.{recordLength, premiseField, fieldOf}
-use Rattle.records.specs.Notices.{encode, encodeAll, Emits}
-use Rattle.records.proofs.Notices.{length-encode, premise-back}
+use Rattle.records.specs.Layout.{premiseField, fieldOf}
+use Rattle.records.specs.Notices.{encode}
+use Rattle.records.proofs.Notices.{premise-back}
 use Rattle.premise.specs.declared.File.{File}
 use Rattle.premise.specs.OnePremise.{marked}
 use Rattle.premise.specs.Laws.{Of, markedOr}
 use Rattle.premise.proofs.Notices.{mark-notices}
 use Rattle.book.specs.Book.{fileFor}
 use Rattle.book.specs.Calls.{markedNotices}
-use Rattle.book.specs.Demand3.{Premise, rowsOf, withPremise}
+use Rattle.book.specs.Demand3.{Premise, withPremise}
 use Rattle.book.proofs.Files.{Rising, found-below, found-head, found-tail}
-
--- ---- what stands in a buffer
-written : (ns : List Notice) (rest : List ℕ) → rowsOf (length ns) (encodeAll ns ++ rest) ≡ map encode ns
-written [] rest = refl
-written (n ∷ ns) rest =
-    let e = append-assoc (encode n) (encodeAll ns) rest in
-    ap₂ (λ (x : List ℕ) (xs : List (List ℕ)). x ∷ xs)
-    (ap (take recordLength) e ∙ take-at (encode n) (encodeAll ns ++ rest) recordLength (length-encode n))
-    (ap (λ l. rowsOf (length ns) (drop recordLength l)) e ∙ ap (rowsOf (length ns)) (drop-at (encode n) (encodeAll ns ++ rest) recordLength (length-encode n)) ∙ written ns rest)
-
--- the first n notices of a buffer on return are those that the call gave
-pub rows-emitted : (before after : List ℕ) (n : ℕ) (ns : List Notice) → Emits before after n ns → rowsOf n after ≡ map encode ns
-rows-emitted before after n ns e = ap₂ rowsOf (e .count) (e .bytes) ∙ written ns (drop (recordLength * length ns) before)
 
 -- ---- picked by number
 pick-append : (premise : ℕ) (a b : List (List ℕ)) → withPremise premise (a ++ b) ≡ withPremise premise a ++ withPremise premise b

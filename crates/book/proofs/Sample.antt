@@ -11,9 +11,9 @@ use Rattle.lists.specs.Search.{allOf}
 use Rattle.lists.proofs.TestLaws.{and-left, and-right, pass-each}
 use Rattle.days.specs.Days.{kindOfDay, isBusinessDay, switchDate}
 use Rattle.days.specs.Window.{businessDays, inWindow}
-use Rattle.records.specs.Layout.{recordLength, fieldOf}
+use Rattle.records.specs.Layout.{Bytes, recordLength, fieldOf}
 use Rattle.records.specs.Records.{wellFormed, reading}
-use Rattle.records.specs.Notices.{encode, encodeAll}
+use Rattle.records.specs.Notices.{encode, encodeAll, rows}
 use Rattle.premise.specs.Orders.{places}
 use Rattle.premise.specs.Steps.{requestedDay, makeRoom, ordered, taken, onScheduled, onPermit, onUnexecutable, onRead, supplied, onCancel, onReply, onOrder, changed}
 use Rattle.premise.specs.Clock.{reviewed, permitAwaited, cancelAwaited, ticked}
@@ -25,7 +25,7 @@ use Rattle.premise.specs.OnePremise.{marked, stepped, step}
 use Rattle.book.specs.declared.Book.{Book}
 use Rattle.book.specs.Book.{freshBook, bookOf, bookKept, fileFor, putIn, takenOut}
 use Rattle.book.specs.Calls.{noticeBytes, Result, callRows, call}
-use Rattle.book.specs.Demand3.{Made, Played, AreBytes, meetsRow6, AllAllowed, Premise, ownBytes, answers, rowsOf, noticesFor, SameBooks}
+use Rattle.book.specs.Demand3.{Made, Played, meetsRow6, AllAllowed, Premise, ownBytes, answers, noticesFor, SameBooks}
 use Rattle.book.proofs.Demand3.{shuffle-proof}
 
 -- a buffer of the shortest length that is taken
@@ -58,7 +58,7 @@ allows : List ℕ → Book → List (List ℕ) → Bool
 allows calendar b [] = true
 allows calendar b (bytes ∷ tape) = allOf (λ (x : ℕ). ltb x 256) bytes && not (meetsRow6 b (reading bytes)) && allows calendar (call calendar b bytes lent .book) tape
 
-are-bytes : (xs : List ℕ) → allOf (λ (x : ℕ). ltb x 256) xs ≡ true → AreBytes xs
+are-bytes : (xs : List ℕ) → allOf (λ (x : ℕ). ltb x 256) xs ≡ true → Bytes xs
 are-bytes [] e = tt
 are-bytes (x ∷ xs) e =
     let rest : Bool = allOf (λ (y : ℕ). ltb y 256) xs in
@@ -147,7 +147,7 @@ losing5 = 4 ∷ 3 ∷ 3 ∷ 0 ∷ 9 ∷ 0 ∷ 0 ∷ 0 ∷ 5 ∷ 0 ∷ 0 ∷ 0 �
 
 -- what stands in each call's buffer on return
 buffers : List Made → List (List (List ℕ))
-buffers ms = map (λ (m : Made). rowsOf (m .reply .sent) (m .after)) ms
+buffers ms = map (λ (m : Made). rows (m .reply .sent) (m .after)) ms
 
 -- ---- what comes out: for two premises, for one that has no file, and in every buffer
 record Comes : Type 0 where

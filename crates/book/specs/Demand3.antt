@@ -1,18 +1,17 @@
 -- Demand 3: one statement about a list of record calls as a whole, about what calls returned, tied together by the record call's own
 -- promise; proofs/Demand3.antt proves both types below.
-use Prim.Native.Nat.{ℕ, zero, suc, _≤_, _<_}
+use Prim.Native.Nat.{ℕ, _≤_, _<_}
 use mathlib.Core.Path.{_≡_}
 use mathlib.Core.List.{List, [], _∷_, _++_, map}
 use mathlib.Core.Bool.{Bool, true, false, cond, _&&_, not}
 use lib.Dec.{eqb}
-use lib.ListN.{length, take, drop}
-use Rattle.lists.specs.Search.{Each}
+use lib.ListN.{length}
 use Rattle.records.specs.declared.Record.{Record}
 use Rattle.records.specs.declared.Reading.{Reading}
 use Rattle.records.specs.declared.Reading.the-variants.{Malformed, Says}
-use Rattle.records.specs.Layout.{recordLength, premiseField, fieldOf}
+use Rattle.records.specs.Layout.{Bytes, premiseField, fieldOf}
 use Rattle.records.specs.Records.{reading, kindCreate, kindDayMark}
-use Rattle.records.specs.Notices.{encode}
+use Rattle.records.specs.Notices.{encode, rows}
 use Rattle.premise.specs.Steps.{is}
 use Rattle.premise.specs.Refusals.{number, isHeld}
 use Rattle.premise.specs.OnePremise.{Given, startState, runs, endState}
@@ -41,18 +40,14 @@ lastBook b [] = b
 lastBook b (m ∷ ms) = lastBook (m .reply .book) ms
 
 -- ---- the premises of the theorem
--- a record's bytes are bytes
-abbrev pub AreBytes : List ℕ → Type 0
-AreBytes xs = Each (λ (x : ℕ). x < 256) xs
-
 -- a well-formed create of a premise that is not held, while 64 files are held: the call meets row 6
 abbrev pub meetsRow6 : Book → Reading → Bool
 meetsRow6 b Malformed = false
 meetsRow6 b (Says r) = is kindCreate r && not (isHeld (fileFor (r .premise) (filesOf b))) && eqb (length (filesOf b)) mostFiles
 
--- at least 24,576 notice bytes each; none meets row 6
+-- a record's bytes are bytes; at least 24,576 notice bytes each; none meets row 6
 pub record Allowed (b : Book) (m : Made) : Type 0 where
-  pub real : AreBytes (m .bytes)
+  pub real : Bytes (m .bytes)
   pub room : noticeBytes ≤ length (m .lent)
   pub places : meetsRow6 b (reading (m .bytes)) ≡ false
 
@@ -90,20 +85,15 @@ abbrev pub answers : ℕ → List Made → List ℕ
 answers premise [] = []
 answers premise (m ∷ ms) = cond (concerns premise (reading (m .bytes))) (number (m .reply .answer) ∷ answers premise ms) (answers premise ms)
 
--- the first n notices of a buffer, as bytes
-abbrev pub rowsOf : ℕ → List ℕ → List (List ℕ)
-rowsOf zero buffer = []
-rowsOf (suc n) buffer = take recordLength buffer ∷ rowsOf n (drop recordLength buffer)
-
--- those of them with a premise's P in bytes 8 to 15
+-- of the notices in a buffer, as rows of bytes, those with a premise's P in bytes 8 to 15
 abbrev pub withPremise : ℕ → List (List ℕ) → List (List ℕ)
 withPremise premise [] = []
-withPremise premise (row ∷ rows) = cond (eqb (fieldOf premiseField row) premise) (row ∷ withPremise premise rows) (withPremise premise rows)
+withPremise premise (row ∷ others) = cond (eqb (fieldOf premiseField row) premise) (row ∷ withPremise premise others) (withPremise premise others)
 
 -- Its notices are, call after call, those with its P among the first n in that call's buffer on return, whichever call it was.
 abbrev pub noticesFor : ℕ → List Made → List (List ℕ)
 noticesFor premise [] = []
-noticesFor premise (m ∷ ms) = withPremise premise (rowsOf (m .reply .sent) (m .after)) ++ noticesFor premise ms
+noticesFor premise (m ∷ ms) = withPremise premise (rows (m .reply .sent) (m .after)) ++ noticesFor premise ms
 
 -- ---- what the one-premise rules give, from the premise's own records and the day marks alone
 abbrev pub ruledAnswers : List Given → List ℕ

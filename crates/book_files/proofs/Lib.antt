@@ -1,2 +1,4 @@
 pub mod Tidy
 pub mod Before
+pub mod PutIn
+pub mod TakenOut

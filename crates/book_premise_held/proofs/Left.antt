@@ -26,7 +26,9 @@ use Rattle.book.proofs.Files.{rises-rising}
 use Rattle.book.proofs.Kept.{count-is}
 use Rattle.book_files.specs.Places.{before, TidyBook}
 use Rattle.book_files.proofs.Tidy.{tidy-kept}
-use Rattle.book_files.proofs.Before.{Here, found-here, taken-here, put-here}
+use Rattle.book_files.proofs.Before.{Here, found-here}
+use Rattle.book_files.proofs.PutIn.{put-here}
+use Rattle.book_files.proofs.TakenOut.{taken-here}
 use Rattle.book_replies.specs.Parts.{Gives, onOther, Ready}
 use Rattle.book_replies.proofs.Given.{given, gives, left, number-left, none-left}
 

@@ -29,7 +29,9 @@ use Rattle.book.specs.Demand3.{meetsRow6}
 use Rattle.book.proofs.Kept.{count-is}
 use Rattle.book_files.specs.Places.{before, TidyBook}
 use Rattle.book_files.proofs.Tidy.{tidy-kept}
-use Rattle.book_files.proofs.Before.{before-within, taken-elsewhere, put-elsewhere}
+use Rattle.book_files.proofs.Before.{before-within}
+use Rattle.book_files.proofs.PutIn.{put-elsewhere}
+use Rattle.book_files.proofs.TakenOut.{taken-elsewhere}
 use Rattle.book_replies.specs.Parts.{Gives, inBook, onOther, Ready}
 use Rattle.book_replies.proofs.Refusals.{gives-refusal}
 use Rattle.book_replies.proofs.Given.{given, gives, left, number-left, none-left}

@@ -58,7 +58,7 @@ module _ (calendar : List ℕ) (today : ℕ) (r : Record) (premise : ℕ) (w : w
 
 pub step-keeps : StepKeeps
 unfolding step
-step-keeps calendar s r premise t w p k =
+step-keeps calendar s r premise w p k =
     by-test (Keeps premise) (eqb (number (firstRow (rows calendar (s .today) (s .file) r))) 0) _ _
     (λ e. effect-keeps calendar (s .today) r premise w (s .file) p (no-row calendar (s .today) (s .file) r e) k)
     (λ e. k)

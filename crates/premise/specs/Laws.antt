@@ -8,7 +8,6 @@ use mathlib.Core.Bool.{Bool, true, false, cond}
 use lib.Dec.{eqb}
 use lib.ListN.{length}
 use Rattle.lists.specs.Search.{anyOf, Each}
-use Rattle.days.specs.Days.{lastDay}
 use Rattle.records.specs.declared.Record.{Record}
 use Rattle.records.specs.declared.Notice.{Notice}
 use Rattle.records.specs.Records.{kindCreate, kindRetire, kindDayMark, wellFormed}
@@ -107,7 +106,7 @@ pub record KeptFor (premise : ℕ) (f : File) : Type 0 where
 abbrev pub StepKeeps : Type 0
 StepKeeps =
     (calendar : List ℕ) (s : State) (r : Record) (premise : ℕ)
-    → s .today ≤ lastDay → wellFormed r ≡ true → (is kindDayMark r ≡ false → r .premise ≡ premise)
+    → wellFormed r ≡ true → (is kindDayMark r ≡ false → r .premise ≡ premise)
     → Held (KeptFor premise) (s .file) → Held (KeptFor premise) (step calendar s r .state .file)
 
 abbrev pub MarkKeeps : Type 0

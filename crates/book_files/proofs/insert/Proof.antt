@@ -7,7 +7,7 @@ use Rattle.premise.specs.declared.File.{File}
 use Rattle.book.specs.declared.Book.{Book}
 use Rattle.book.specs.Book.{mostFiles}
 use Rattle.book_files.specs.Places.{TidyBook}
-use Rattle.book_files.proofs.Tidy.{growing, grownAt, grow-start, grow-first, grow-next, grow-carry, grow-end}
+use Rattle.book_files.proofs.PutIn.{growing, grownAt, grow-start, grow-first, grow-next, grow-carry, grow-end}
 use Rattle.book_files.proofs.insert.Statement.{statement}
 use Rattle.book_files.proofs.insert.Tie as tie
 

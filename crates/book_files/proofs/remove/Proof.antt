@@ -6,7 +6,7 @@ use native.Mathlib.Omega.{arith}
 use borrow.Author.Needs.{needs}
 use Rattle.book.specs.declared.Book.{Book}
 use Rattle.book_files.specs.Places.{TidyBook}
-use Rattle.book_files.proofs.Tidy.{shrinking, shrink-start, shrink-next, shrink-end}
+use Rattle.book_files.proofs.TakenOut.{shrinking, shrink-start, shrink-next, shrink-end}
 use Rattle.book_files.proofs.remove.Statement.{statement}
 use Rattle.book_files.proofs.remove.Tie as tie
 

@@ -2,19 +2,26 @@
 use Prim.Native.Nat.{ℕ, suc, _+_, _-_, _≤_, _<_}
 use mathlib.Core.Path.{_≡_, refl, sym, ap, ap₂, subst, subst⁻¹, _∙_}
 use mathlib.Core.List.{List, [], _∷_, _++_, append-assoc, append-nil}
+use mathlib.Core.Bool.{Bool, false}
 use native.Mathlib.Numerals.{add-one}
 use native.Mathlib.Omega.{arith}
 use lib.ListN.{take, drop, length, getD, set, take-append-drop, length-take, length-map}
-use lib.Seq.{take-all, take-suc, drop-cons, set-at, getD-at, append-snoc}
+use lib.Seq.{take-all, take-suc, drop-cons, set-at, getD-at, append-snoc, set-getD}
 use Rattle.lists.specs.Search.{Each}
 use Rattle.lists.proofs.SearchLaws.{each-at}
+use Rattle.days.specs.Days.{isBusinessDay}
+use Rattle.days.specs.Window.{windowWidth, LastInWindow}
 use Rattle.records.specs.declared.Notice.{Notice}
 use Rattle.premise.specs.declared.File.{File}
 use Rattle.premise.specs.declared.Passed.{Passed}
+use Rattle.premise.specs.Orders.{held}
 use Rattle.premise.specs.OnePremise.{marked}
 use Rattle.premise.specs.WellKept.{Tidy}
 use Rattle.premise.specs.Promises.{Room, Writes, DoneToFile}
 use Rattle.premise_notices.proofs.Writes.{writes-none, writes-length, room-first, room-then, writes-then}
+use Rattle.premise_quiet.specs.Quiet.{touched}
+use Rattle.premise_quiet.proofs.Quiet.{untouched-stays}
+use Rattle.premise_passes.proofs.Then.{done-nothing}
 use Rattle.book.specs.declared.Book.{Book}
 use Rattle.book.specs.Book.{mostFiles, filesOf, bookOf}
 use Rattle.book.specs.Calls.{markedFiles, markedNotices}
@@ -131,6 +138,18 @@ module _ (calendar : List ℕ) (day : ℕ) (b : Book) (tidy : TidyBook b) where
                   subst⁻¹ (λ (l : List Notice). Writes 0 buffer last (r .sent) l) (notices-more i h)
                   (writes-then 0 buffer (markedNotices calendar day (take i (filesOf b))) (marked calendar day (file i h) .notices) room-more after sent (s .wrote) last (r .sent) (done .wrote));
             }
+
+        -- a turn on a file that the mark does not touch
+        pub sofar-still : (business untouched : Bool) (last : ℕ) → Each Tidy (filesOf b) → business ≡ isBusinessDay calendar day → LastInWindow calendar windowWidth day last
+            → untouched ≡ touched business day last (held (getD (c .files) i past)) → untouched ≡ false
+            → Sofar calendar day (b .count) (b .files) buffer (i + 1) sent c after
+        sofar-still business untouched last each day-kind window asked stays =
+            let f : File = getD (c .files) i past in
+            let e : marked calendar day f ≡ record { file = f; notices = [] } =
+            untouched-stays calendar day last f (sofar-tidy each) window
+            (ap (λ (x : Bool). touched x day last (held f)) (sym day-kind) ∙ sym asked ∙ stays) in
+            subst (λ (fs : List File). Sofar calendar day (b .count) (b .files) buffer (i + 1) sent (withPlaces c (c .count) fs) after) (set-getD (c .files) i past)
+            (sofar-turn (record { file = f; sent = sent }) after (done-nothing (marked calendar day f) f sent after e))
 
   -- after the last turn the mark is done
   module _ (buffer : List ℕ) (i sent : ℕ) (c : Book) (after : List ℕ) (s : Sofar calendar day (b .count) (b .files) buffer i sent c after) (e : b .count ≤ i) where

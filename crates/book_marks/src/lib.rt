@@ -21,11 +21,13 @@ pub struct Marked {
     pub sent: usize,
 }
 
-// The day mark on every file, in rising premise numbers, by the new day.
+// The day mark on every file, in rising premise numbers, by the new day. A file that it leaves is not handed over: most files on most marks
+// are.
 fn mark(calendar: &[u8], day: u16, b: Book, buffer: &mut [u8]) -> Marked
     requires { ⌜ TidyBook b × Each Tidy (filesOf b) × Room 0 (markedNotices (now calendar) day (filesOf b)) (now buffer) ⌝ }
     ensures { λ r. ⌜ (r .book ≡ bookOf day (markedFiles (now (calendar .entry)) day (filesOf b))) × Writes 0 (now (buffer .entry)) (now (buffer .exit)) (r .sent) (markedNotices (now (calendar .entry)) day (filesOf b)) ⌝ }
 {
+    let business = days::is_business_day(calendar, day);
     let last = days::last_in_window(calendar, days::WINDOW_WIDTH, day);
     let n = b.count;
     let mut c = b;
@@ -34,11 +36,14 @@ fn mark(calendar: &[u8], day: u16, b: Book, buffer: &mut [u8]) -> Marked
     let mut place: usize = 0;
     while place < n {
         let f = c.files[place];
-        let p = premise_passes::mark(calendar, day, last, f, sent, buffer);
-        let g = p.file;
-        c.files[place] = g;
-        sent = p.sent;
+        let at = place;
         place += 1;
+        if premise_quiet::is_touched(business, day, last, f) {
+            let p = premise_passes::mark(calendar, day, last, f, sent, buffer);
+            let g = p.file;
+            c.files[at] = g;
+            sent = p.sent;
+        }
     }
     Marked {
         book: c,

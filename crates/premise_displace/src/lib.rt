@@ -25,7 +25,7 @@ fn is_switch_on(day: u16, o: Order) -> bool
 }
 
 // Whether a file has a Scheduled switch for a day.
-fn any_switch_on(file: File, day: u16) -> bool
+pub fn any_switch_on(file: File, day: u16) -> bool
     requires { ⌜ Tidy file ⌝ }
     ensures { λ r. ⌜ r ≡ anyOf (switchOn day) (held file) ⌝ }
 {
@@ -42,7 +42,7 @@ fn any_switch_on(file: File, day: u16) -> bool
 }
 
 // Whether an order is a drop that a switch displaces.
-pub fn is_displaced(calendar: &[u8], today: u16, file: File, o: Order) -> bool
+fn is_displaced(calendar: &[u8], today: u16, file: File, o: Order) -> bool
     requires { ⌜ Tidy file ⌝ }
     ensures { λ r. ⌜ r ≡ displaced (now (calendar .entry)) today (held file) o ⌝ }
 {

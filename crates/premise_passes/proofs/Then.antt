@@ -7,7 +7,7 @@ use Rattle.premise.specs.declared.Order.{Order}
 use Rattle.premise.specs.declared.File.{File}
 use Rattle.premise.specs.declared.Passed.{Passed}
 use Rattle.premise.specs.Orders.{held, withOrders}
-use Rattle.premise.specs.Passes.{Outcome, Effect, pass, andThen, onFile}
+use Rattle.premise.specs.Passes.{Change, Outcome, Effect, pass, andThen, onFile}
 use Rattle.premise.specs.Evaluation.{evaluation, evaluated}
 use Rattle.premise.specs.OnePremise.{followed}
 use Rattle.premise.specs.WellKept.{Tidy}
@@ -18,7 +18,7 @@ use Rattle.premise_run.specs.declared.Pass.{Pass}
 use Rattle.premise_run.specs.declared.Pass.the-variants.{Settle, Displace, Lapse, Tell}
 use Rattle.premise_run.specs.Which.{stepOf}
 use Rattle.premise.proofs.KeptFiles.{held-with, tidy-with}
-use Rattle.premise_run.proofs.Turns.{length-pass}
+use Rattle.premise_run.proofs.Passes.{length-pass}
 
 -- ---- any two effects
 module _ (first : Effect) (next : File → Effect) (standing : ℕ) (b : List ℕ) (room : Room standing (followed first next .notices) b) where
@@ -64,13 +64,11 @@ doing-then first next f =
       notices = a .notices ++ next (f .premise) (f .retailer) os .notices;
     }) (sym (held-with f (a .orders)))
 
--- a pass leaves a tidy file
-pub pass-tidy : (which : Pass) (calendar : List ℕ) (today : ℕ) (f : File) → Tidy f → (standing : ℕ) (r : Passed) (b c : List ℕ)
-    → DoneToFile (doing (passOf which calendar today) f) standing r b c → Tidy (r .file)
-pass-tidy which calendar today f tidy standing r b c done =
-    subst⁻¹ Tidy (done .file)
-    (tidy-with f (passOf which calendar today (f .premise) (f .retailer) (held f) .orders)
-    (omega (arith, length-pass (stepOf which calendar today (f .premise) (f .retailer) (held f)) 0 (held f), length-held f tidy, tidy .few)))
+-- a pass by any step leaves a tidy file
+pub pass-tidy : (step : ℕ → Order → Change) (f : File) → Tidy f → (standing : ℕ) (r : Passed) (b c : List ℕ)
+    → DoneToFile (onFile f (pass step (held f))) standing r b c → Tidy (r .file)
+pass-tidy step f tidy standing r b c done =
+    subst⁻¹ Tidy (done .file) (tidy-with f (pass step (held f) .orders) (omega (arith, length-pass step 0 (held f), length-held f tidy, tidy .few)))
 
 -- the evaluation of a file is its four passes, one after another
 module _ (calendar : List ℕ) (today : ℕ) where
@@ -109,14 +107,14 @@ module _ (calendar : List ℕ) (today : ℕ) (f : File) (tidy : Tidy f) (standin
 
   module _ (r₁ : Passed) (c₁ : List ℕ) (d₁ : DoneToFile (doing (passOf Settle calendar today) f) standing r₁ b c₁) where
     tidy₁ : Tidy (r₁ .file)
-    tidy₁ = pass-tidy Settle calendar today f tidy standing r₁ b c₁ d₁
+    tidy₁ = pass-tidy (stepOf Settle calendar today (f .premise) (f .retailer) (held f)) f tidy standing r₁ b c₁ d₁
 
     pub displace-ready : Tidy (r₁ .file) × Room (r₁ .sent) (doing (passOf Displace calendar today) (r₁ .file) .notices) c₁
     displace-ready = (tidy₁, then-room (doing (passOf Settle calendar today) f) (doing (passOf Displace calendar today)) standing b room-displace r₁ c₁ d₁)
 
     module _ (r₂ : Passed) (c₂ : List ℕ) (d₂ : DoneToFile (doing (passOf Displace calendar today) (r₁ .file)) (r₁ .sent) r₂ c₁ c₂) where
       tidy₂ : Tidy (r₂ .file)
-      tidy₂ = pass-tidy Displace calendar today (r₁ .file) tidy₁ (r₁ .sent) r₂ c₁ c₂ d₂
+      tidy₂ = pass-tidy (stepOf Displace calendar today (r₁ .file .premise) (r₁ .file .retailer) (held (r₁ .file))) (r₁ .file) tidy₁ (r₁ .sent) r₂ c₁ c₂ d₂
 
       done₂ : DoneToFile (throughDisplace calendar today f) standing r₂ b c₂
       done₂ = then-done (doing (passOf Settle calendar today) f) (doing (passOf Displace calendar today)) standing b room-displace r₁ c₁ d₁ r₂ c₂ d₂
@@ -130,7 +128,7 @@ module _ (calendar : List ℕ) (today : ℕ) (f : File) (tidy : Tidy f) (standin
 
         pub tell-ready : Tidy (r₃ .file) × Room (r₃ .sent) (doing (passOf Tell calendar today) (r₃ .file) .notices) c₃
         tell-ready =
-            (pass-tidy Lapse calendar today (r₂ .file) tidy₂ (r₂ .sent) r₃ c₂ c₃ d₃, then-room (throughLapse calendar today f) (doing (passOf Tell calendar today)) standing b room-tell r₃ c₃ done₃)
+            (pass-tidy (stepOf Lapse calendar today (r₂ .file .premise) (r₂ .file .retailer) (held (r₂ .file))) (r₂ .file) tidy₂ (r₂ .sent) r₃ c₂ c₃ d₃, then-room (throughLapse calendar today f) (doing (passOf Tell calendar today)) standing b room-tell r₃ c₃ done₃)
 
         pub evaluate-done : (r₄ : Passed) (c₄ : List ℕ) → DoneToFile (doing (passOf Tell calendar today) (r₃ .file)) (r₃ .sent) r₄ c₃ c₄
             → DoneToFile (evaluated calendar today f) standing r₄ b c₄

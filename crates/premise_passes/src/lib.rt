@@ -11,17 +11,30 @@ use premise::File;
 use premise::Passed;
 use premise_run::Pass;
 
-// The clock on a file. One with no order that it counts for is left alone: most marks change few files.
+// The clock on a file. An order that it leaves is not stored again: on most marks few are changed.
 fn wind(calendar: &[u8], today: u16, file: File, standing: usize, buffer: &mut [u8]) -> Passed
     requires { ⌜ Tidy file × Room standing (onFile file (clock (now calendar) today (file .premise) (held file)) .notices) (now buffer) ⌝ }
     ensures { λ r. ⌜ DoneToFile (onFile file (clock (now (calendar .entry)) today (file .premise) (held file))) standing r (now (buffer .entry)) (now (buffer .exit)) ⌝ }
 {
-    if premise_quiet::any_waits(file) {
-        return premise_run::run(Pass::Clock, calendar, today, file, standing, buffer);
+    let business = days::is_business_day(calendar, today);
+    let n = file.count;
+    let mut out = file;
+    let mut sent = standing;
+    let mut i: usize = 0;
+    while i < n {
+        let o = file.orders[i];
+        let at = i;
+        i += 1;
+        if premise_clock::is_moving(business, today, o) {
+            let s = premise_clock::tick(business, today, file.premise, o, sent, buffer);
+            let t = s.order;
+            out.orders[at] = t;
+            sent = s.sent;
+        }
     }
     Passed {
-        file: file,
-        sent: standing,
+        file: out,
+        sent: sent,
     }
 }
 
@@ -37,7 +50,7 @@ pub fn evaluate(
     requires { ⌜ Tidy file × Room standing (evaluated (now calendar) today file .notices) (now buffer) × LastInWindow (now calendar) windowWidth today last ⌝ }
     ensures { λ r. ⌜ DoneToFile (evaluated (now (calendar .entry)) today file) standing r (now (buffer .entry)) (now (buffer .exit)) ⌝ }
 {
-    if !premise_quiet::any_stirs(calendar, today, last, file) {
+    if !premise_quiet::any_stirs(today, last, file) {
         return Passed {
             file: file,
             sent: standing,

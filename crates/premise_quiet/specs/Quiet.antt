@@ -1,31 +1,33 @@
--- Orders that the clock counts for, and orders that the evaluation changes. A file without one is left alone.
+-- Files that the evaluation, or a day mark, leaves alone.
 use Prim.Native.Nat.{ℕ, suc}
+use mathlib.Core.Path.{_≡_}
 use mathlib.Core.List.{List, [], _∷_}
-use mathlib.Core.Bool.{Bool, false, not, _&&_, _||_}
-use lib.Dec.{leb}
-use Rattle.lists.specs.Search.{isAt}
+use mathlib.Core.Bool.{Bool, false, _||_}
+use Rattle.days.specs.Days.{isBusinessDay}
+use Rattle.days.specs.Window.{windowWidth, LastInWindow}
 use Rattle.premise.specs.declared.Order.{Order}
-use Rattle.premise.specs.Orders.{inReview, permitPending, cancelPending, hasStatus}
-use Rattle.premise.specs.Evaluation.{contends, kept, displaced, overtaken, due}
-use Rattle.premise_changes.specs.Parts.{isStanding}
-
--- The clock counts for it: In Review, Permit Pending or Cancel Pending.
-abbrev pub waits : Order → Bool
-waits o = hasStatus inReview o || hasStatus permitPending o || hasStatus cancelPending o
-
--- Pass 1 cancels the order at a place: it is one of the switches of which one a day is kept, and another is kept.
-abbrev pub givesWay : List ℕ → ℕ → List Order → ℕ → Order → Bool
-givesWay calendar today os i o = contends calendar today o && not (isAt (kept calendar today os (o .scheduled)) i)
-
--- The evaluation changes the order at a place: it gives way in pass 1, is displaced in pass 2, overtaken in pass 3 or due in pass 4.
-unfoldable pub stirs : List ℕ → ℕ → List Order → ℕ → Order → Bool
-stirs calendar today os i o = givesWay calendar today os i o || displaced calendar today os o || overtaken today os o || due calendar today o
-
--- What such an order says by itself, by the last day in window: Permit Pending, or Scheduled or Cancel Pending and in window.
-abbrev pub mayStir : ℕ → Order → Bool
-mayStir last o = hasStatus permitPending o || isStanding o && leb (o .scheduled) last
+use Rattle.premise.specs.declared.File.{File}
+use Rattle.premise.specs.Orders.{held}
+use Rattle.premise.specs.OnePremise.{marked}
+use Rattle.premise.specs.WellKept.{Tidy}
+use Rattle.premise_clock.specs.Moves.{moves}
+use Rattle.premise_stirs.specs.Stirs.{stirs}
 
 -- whether some order passes a test that goes by its place, the places counted from a number on
 abbrev pub anyAt : (ℕ → Order → Bool) → ℕ → List Order → Bool
 anyAt p i [] = false
 anyAt p i (o ∷ os) = p i o || anyAt p (suc i) os
+
+-- The clock or the evaluation changes the order at a place.
+abbrev pub touches : Bool → ℕ → ℕ → List Order → ℕ → Order → Bool
+touches business today last os i o = moves business today o || stirs today last os i o
+
+-- A day mark changes some order.
+abbrev pub touched : Bool → ℕ → ℕ → List Order → Bool
+touched business today last os = anyAt (touches business today last os) 0 os
+
+-- A file without such an order is left alone by the day mark: clock and evaluation leave it as it is and send nothing.
+abbrev pub UntouchedStays : Type 0
+UntouchedStays =
+    (calendar : List ℕ) (today last : ℕ) (f : File) → Tidy f → LastInWindow calendar windowWidth today last
+    → touched (isBusinessDay calendar today) today last (held f) ≡ false → marked calendar today f ≡ record { file = f; notices = [] }

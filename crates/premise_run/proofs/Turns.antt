@@ -1,7 +1,7 @@
 -- A pass by any step, run over a file and a buffer order by order: what stands after some turns, and at the end. Assumes nothing.
 use Prim.Native.Nat.{ℕ, suc, _+_, _-_, _<_, _≤_}
 use mathlib.Core.Path.{_≡_, refl, sym, ap, ap₂, subst, subst⁻¹, _∙_}
-use mathlib.Core.List.{List, [], _∷_, _++_, append-assoc, append-nil}
+use mathlib.Core.List.{List, [], _∷_, _++_, append-nil}
 use native.Mathlib.Numerals.{add-one}
 use native.Mathlib.Omega.{arith}
 use lib.ListN.{take, drop, length, getD, set, replicate, take-append-drop, length-take}
@@ -11,30 +11,13 @@ use Rattle.premise.specs.declared.Order.{Order}
 use Rattle.premise.specs.declared.File.{File}
 use Rattle.premise.specs.declared.Stepped.{Stepped}
 use Rattle.premise.specs.Orders.{mostOrders, blank, held, places}
-use Rattle.premise.specs.Passes.{Change, passFrom, pass, onFile}
+use Rattle.premise.specs.Passes.{Change, same, passFrom, pass, onFile}
 use Rattle.premise.specs.WellKept.{Tidy}
 use Rattle.premise.specs.Promises.{Room, Writes, DoneToOrder, DoneToFile}
 use Rattle.premise_notices.proofs.Writes.{writes-none, writes-length, room-first, room-then, writes-then}
 use Rattle.premise.proofs.KeptFiles.{length-held, length-orders}
 use Rattle.premise.proofs.Places.{withPlaces}
-
-module _ (step : ℕ → Order → Change) where
-  -- a pass over a list that is put together
-  pub pass-orders : (j : ℕ) (xs ys : List Order) → passFrom step j (xs ++ ys) .orders ≡ passFrom step j xs .orders ++ passFrom step (j + length xs) ys .orders
-  pass-orders j [] ys = ap (λ (n : ℕ). passFrom step n ys .orders) (omega arith)
-  pass-orders j (x ∷ xs) ys =
-      ap (λ (l : List Order). step j x .order ∷ l) (pass-orders (suc j) xs ys ∙ ap (λ (n : ℕ). passFrom step (suc j) xs .orders ++ passFrom step n ys .orders) (omega arith))
-
-  pub pass-notices : (j : ℕ) (xs ys : List Order) → passFrom step j (xs ++ ys) .notices ≡ passFrom step j xs .notices ++ passFrom step (j + length xs) ys .notices
-  pass-notices j [] ys = ap (λ (n : ℕ). passFrom step n ys .notices) (omega arith)
-  pass-notices j (x ∷ xs) ys =
-      ap (λ (l : List Notice). step j x .notices ++ l) (pass-notices (suc j) xs ys ∙ ap (λ (n : ℕ). passFrom step (suc j) xs .notices ++ passFrom step n ys .notices) (omega arith))
-      ∙ sym (append-assoc (step j x .notices) (passFrom step (suc j) xs .notices) (passFrom step (j + length (x ∷ xs)) ys .notices))
-
-  -- a pass keeps the number of orders
-  pub length-pass : (j : ℕ) (xs : List Order) → length (passFrom step j xs .orders) ≡ length xs
-  length-pass j [] = refl
-  length-pass j (x ∷ xs) = ap suc (length-pass (suc j) xs)
+use Rattle.premise_run.proofs.Passes.{pass-orders, pass-notices, length-pass}
 
 -- a pass after i turns: the first i orders are done, their notices sent
 pub record Sofar (step : ℕ → Order → Change) (file : File) (standing : ℕ) (b : List ℕ) (i sent : ℕ) (out : File) (c : List ℕ) : Type 0 where
@@ -123,6 +106,25 @@ module _ (step : ℕ → Order → Change) (file : File) (tidy : Tidy file) wher
                   subst⁻¹ (λ (l : List Notice). Writes standing b d (r .sent) l) (notices-more i h)
                   (writes-then standing b (pass step (take i (held file)) .notices) (step i (o i h) .notices) room-more c sent (s .wrote) d (r .sent) (done .wrote));
             }
+
+  -- a turn on an order that the step leaves as it is: nothing is stored and nothing sent
+  pub sofar-leaves : (standing : ℕ) (b : List ℕ) (i sent : ℕ) (out : File) (c : List ℕ) → Sofar step file standing b i sent out c → (h : i < file .count)
+      → step i (getD (file .orders) i blank) ≡ same (getD (file .orders) i blank) → Sofar step file standing b (i + 1) sent out c
+  sofar-leaves standing b i sent out c s h e =
+      let done = pass step (take i (held file)) in
+      record {
+        within = omega arith;
+        here =
+            s .here
+            ∙ ap (λ (l : List Order). withPlaces file (file .count) (done .orders ++ l)) (drop-cons (file .orders) i blank (omega (arith, length-orders file tidy, tidy .few)))
+            ∙ ap (withPlaces file (file .count))
+            (sym (append-snoc (done .orders) (o i h) (drop (suc i) (file .orders)))
+            ∙ ap₂ (λ (x : Order) (n : ℕ). (done .orders ++ (x ∷ [])) ++ drop n (file .orders)) (sym (ap (λ (x : Change). x .order) e)) (sym (add-one i))
+            ∙ ap (λ (x : List Order). x ++ drop (i + 1) (file .orders)) (sym (orders-more i h)));
+        wrote =
+            subst⁻¹ (λ (l : List Notice). Writes standing b c sent l)
+            (notices-more i h ∙ ap (λ (x : Change). done .notices ++ x .notices) e ∙ append-nil (done .notices)) (s .wrote);
+      }
 
   -- after the last turn the pass is done
   pub sofar-all : (standing : ℕ) (b : List ℕ) (i sent : ℕ) (out : File) (c : List ℕ) → Sofar step file standing b i sent out c → file .count ≤ i

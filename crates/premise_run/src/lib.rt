@@ -1,4 +1,4 @@
-// The premise layer, inner: a pass run over a file's orders. One loop serves the clock and the four passes of the evaluation.
+// The premise layer, inner: a pass of the evaluation run over a file's orders. One loop serves all four.
 ghost use Rattle.premise.specs.Orders.{held};
 ghost use Rattle.premise.specs.Passes.{pass, onFile};
 ghost use Rattle.premise.specs.WellKept.{Tidy};
@@ -9,9 +9,8 @@ use premise::Order;
 use premise::Passed;
 use premise::Stepped;
 
-// The clock, and the evaluation's four passes.
+// The evaluation's four passes.
 pub enum Pass {
-    Clock,
     Settle,
     Displace,
     Lapse,
@@ -33,10 +32,6 @@ fn change(
     ensures { λ r. ⌜ DoneToOrder (stepOf which (now (calendar .entry)) today (file .premise) (file .retailer) (held file) i o) standing r (now (buffer .entry)) (now (buffer .exit)) ⌝ }
 {
     match which {
-        Pass::Clock => {
-            let business = days::is_business_day(calendar, today);
-            premise_clock::tick(business, today, file.premise, o, standing, buffer)
-        }
         Pass::Settle => premise_settle::settle(calendar, today, file, i, o, standing, buffer),
         Pass::Displace => premise_displace::displace(calendar, today, file, o, standing, buffer),
         Pass::Lapse => premise_displace::lapse(today, file, o, standing, buffer),

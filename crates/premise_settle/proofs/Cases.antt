@@ -70,11 +70,8 @@ module _ (calendar : List ℕ) (today : ℕ) (o : Order) where
     pub way-none : contends calendar today o ≡ false → false ≡ (contends calendar today o && not (isAt (kept calendar today os (o .scheduled)) i))
     way-none e = simp e
 
-    pub way-at : (j : ℕ) → contends calendar today o ≡ true → keptOn (o .scheduled) os ≡ At j → not (eqb j i) ≡ (contends calendar today o && not (isAt (kept calendar today os (o .scheduled)) i))
-    way-at j e k = sym (ap₂ (λ (b : Bool) (f : Found). b && not (isAt f i)) e (kept-near calendar today (o .scheduled) os (near-contends e) ∙ k))
-
-    pub way-nowhere : contends calendar today o ≡ true → keptOn (o .scheduled) os ≡ Nothing → true ≡ (contends calendar today o && not (isAt (kept calendar today os (o .scheduled)) i))
-    way-nowhere e k = sym (ap₂ (λ (b : Bool) (f : Found). b && not (isAt f i)) e (kept-near calendar today (o .scheduled) os (near-contends e) ∙ k))
+    pub way-contends : contends calendar today o ≡ true → not (isAt (keptOn (o .scheduled) os) i) ≡ (contends calendar today o && not (isAt (kept calendar today os (o .scheduled)) i))
+    way-contends e = sym (ap₂ (λ (b : Bool) (f : Found). b && not (isAt f i)) e (kept-near calendar today (o .scheduled) os (near-contends e)))
 
     -- what pass 1 does to it, by what the test said
     module _ (premise : ℕ) (gives : Bool) (said : gives ≡ (contends calendar today o && not (isAt (kept calendar today os (o .scheduled)) i))) where
@@ -92,6 +89,10 @@ module _ (day : ℕ) (os : List Order) where
 
   pub kept-other : placeOf (rival day true) os ≡ Nothing → placeOf (rival day false) os ≡ keptOn day os
   kept-other e = sym (ap (λ (f : Found). orElse f (placeOf (rival day false) os)) e)
+
+  -- whether it is another than the one at a place, by what the search found
+  pub kept-found : (i : ℕ) (f : Found) → keptOn day os ≡ f → not (isAt f i) ≡ not (isAt (keptOn day os) i)
+  kept-found i f e = ap (λ (g : Found). not (isAt g i)) (sym e)
 
 module _ (day : ℕ) (o : Order) where
   pub rival-other : (only : Bool) → isSwitch o ≡ false → false ≡ rival day only o

@@ -73,19 +73,27 @@ fn kept_place(file: File, day: u16) -> Found
     }
 }
 
+// Whether the switch that is kept for a day which is in window is another than the one at a place.
+pub fn kept_elsewhere(file: File, day: u16, i: usize) -> bool
+    requires { ⌜ Tidy file ⌝ }
+    ensures { λ r. ⌜ r ≡ not (isAt (keptOn day (held file)) i) ⌝ }
+{
+    let place = kept_place(file, day);
+    match place {
+        Found::At(j) => j != i,
+        Found::Nothing => true,
+    }
+}
+
 // Whether the order at a place gives way to the switch that is kept for its day.
-pub fn gives_way(calendar: &[u8], today: u16, file: File, i: usize, o: Order) -> bool
+fn gives_way(calendar: &[u8], today: u16, file: File, i: usize, o: Order) -> bool
     requires { ⌜ Tidy file ⌝ }
     ensures { λ r. ⌜ r ≡ (contends (now (calendar .entry)) today o && not (isAt (kept (now (calendar .entry)) today (held file) (o .scheduled)) i)) ⌝ }
 {
     if !is_contender(calendar, today, o) {
         return false;
     }
-    let place = kept_place(file, o.scheduled);
-    match place {
-        Found::At(j) => j != i,
-        Found::Nothing => true,
-    }
+    kept_elsewhere(file, o.scheduled, i)
 }
 
 // Pass 1 on the order at a place of a file.

@@ -6,7 +6,7 @@ use premise::Order;
 use premise::Stepped;
 
 // Whether the retailer that loses the premise by an order is due to be told.
-pub fn is_due(calendar: &[u8], today: u16, o: Order) -> bool
+fn is_due(calendar: &[u8], today: u16, o: Order) -> bool
     ensures { λ r. ⌜ r ≡ due (now (calendar .entry)) today o ⌝ }
 {
     if o.status != premise::SCHEDULED {

@@ -64,7 +64,7 @@ fn begin_cancel(
 }
 
 // Whether a review ends: after 20 business days, or after 3 once the requested day has come.
-fn review_ends(waited: BusinessDays, requested: u16, today: u16) -> bool
+pub fn review_ends(waited: BusinessDays, requested: u16, today: u16) -> bool
     ensures { λ r. ⌜ r ≡ reviewEnds (waited .0) requested today ⌝ }
 {
     if LONG_REVIEW <= waited.0 {
@@ -101,7 +101,7 @@ pub fn review(
 }
 
 // Whether a business day counts towards the wait for a permit: not before the requested day.
-fn counts(business: bool, requested: u16, today: u16) -> bool
+pub fn counts(business: bool, requested: u16, today: u16) -> bool
     ensures { λ r. ⌜ r ≡ (business && leb requested today) ⌝ }
 {
     if business {

@@ -18,7 +18,7 @@ returns c =
     let w = c .before in
     let s = w .before .before .before in
     let a = s .args in
-    done-nothing _ (a .file) (a .standing) (a .buffer .now) (evaluated-still (a .calendar .now) (a .today) (a .file) (s .pre .0) (sym (w .any-stirs .ensures) ∙ not-true _ (c .if1 .taken)))
+    done-nothing _ (a .file) (a .standing) (a .buffer .now) (evaluated-still (a .calendar .now) (a .today) (a .last) (s .pre .2) (a .file) (s .pre .0) (sym (w .any-stirs .ensures) ∙ not-true _ (c .if1 .taken)))
 
 run-requires : tie.Need-run-requires
 run-requires c κs =

@@ -1,11 +1,12 @@
 -- `premise_passes::mark` meets its contract: the clock, and then the evaluation on what the clock left. Assumes nothing.
+use Prim.Native.Nat.{ℕ}
 use borrow.Author.Needs.{needs}
+use Rattle.days.specs.Days.{isBusinessDay}
 use Rattle.premise.specs.Orders.{held}
 use Rattle.premise.specs.Passes.{onFile}
-use Rattle.premise.specs.Clock.{clock}
+use Rattle.premise.specs.Clock.{ticked, clock}
 use Rattle.premise.specs.Evaluation.{evaluated}
 use Rattle.premise.specs.OnePremise.{marked}
-use Rattle.premise_run.specs.declared.Pass.the-variants.{Clock}
 use Rattle.premise_passes.proofs.Then.{then-first, then-room, then-done, pass-tidy}
 use Rattle.premise_passes.proofs.mark.Statement.{statement}
 use Rattle.premise_passes.proofs.mark.Tie as tie
@@ -23,7 +24,7 @@ evaluate-requires c κs =
     let w = c .before .before .before .before in
     let s = w .before .before .before .before in
     let a = s .args in
-    (pass-tidy Clock (a .calendar .now) (a .today) (a .file) (s .pre .0) (a .standing) (w .wind .result) (a .buffer .now) (w .wind .last .1 .1 .1 .1 .0) (w .wind .ensures), then-room (onFile (a .file) (clock (a .calendar .now) (a .today) (a .file .premise) (held (a .file)))) (evaluated (a .calendar .now) (a .today)) (a .standing) (a .buffer .now) (s .pre .1) (w .wind .result) (w .wind .last .1 .1 .1 .1 .0) (w .wind .ensures), s .pre .2)
+    (pass-tidy (λ (i : ℕ). ticked (isBusinessDay (a .calendar .now) (a .today)) (a .today) (a .file .premise)) (a .file) (s .pre .0) (a .standing) (w .wind .result) (a .buffer .now) (w .wind .last .1 .1 .1 .1 .0) (w .wind .ensures), then-room (onFile (a .file) (clock (a .calendar .now) (a .today) (a .file .premise) (held (a .file)))) (evaluated (a .calendar .now) (a .today)) (a .standing) (a .buffer .now) (s .pre .1) (w .wind .result) (w .wind .last .1 .1 .1 .1 .0) (w .wind .ensures), s .pre .2)
 
 same-length : tie.Need-same-length
 same-length c = search needs

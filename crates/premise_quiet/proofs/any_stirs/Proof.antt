@@ -1,22 +1,30 @@
 -- `premise_quiet::any_stirs` meets its contract. The loop's invariant: the search from the place reached on gives what the whole search gives.
 -- The measure is the places left. Assumes nothing.
-use Prim.Native.Nat.{_≤_, _-_}
+use Prim.Native.Nat.{ℕ, _≤_, _-_}
 use mathlib.Core.Path.{_≡_, sym, _∙_}
+use mathlib.Core.Bool.{Bool}
 use borrow.Author.Needs.{needs}
 use lib.ListN.{drop}
+use Rattle.premise.specs.declared.Order.{Order}
 use Rattle.premise.specs.Orders.{held}
-use Rattle.premise_quiet.specs.Quiet.{stirs, anyAt}
-use Rattle.premise.proofs.Places.{first-held, none-held}
-use Rattle.premise_quiet.proofs.Cases.{stirs-not}
+use Rattle.premise_stirs.specs.Stirs.{stirs}
+use Rattle.premise_stirs.proofs.Stirs.{stirs-not, stirs-own}
+use Rattle.premise_quiet.specs.Quiet.{anyAt}
 use Rattle.premise_quiet.proofs.Places.{at-hit, at-next, at-end}
 use Rattle.premise_quiet.proofs.any_stirs.Statement.{statement}
 use Rattle.premise_quiet.proofs.any_stirs.Tie as tie
 
 abbrev Inv-loop : tie.InvT-loop
-Inv-loop calendar today last file n i₀ i = (i ≤ n) × (anyAt (stirs calendar today (held file)) i (drop i (held file)) ≡ anyAt (stirs calendar today (held file)) 0 (held file))
+Inv-loop today last file n i₀ i = (i ≤ n) × (anyAt (stirs today last (held file)) i (drop i (held file)) ≡ anyAt (stirs today last (held file)) 0 (held file))
 
 abbrev μ-loop : tie.MeasureT-loop
-μ-loop calendar today last file n i₀ i = n - i
+μ-loop today last file n i₀ i = n - i
+
+-- the test, as the loop has it
+abbrev test : tie.At-loop Inv-loop μ-loop → ℕ → Order → Bool
+test l =
+    let a = l .before .args in
+    stirs (a .today) (a .last) (held (a .t3))
 
 loop-holds : tie.Need-loop-holds Inv-loop μ-loop
 loop-holds c = search needs
@@ -38,33 +46,39 @@ is-stirring-requires c κs = search needs
 
 returns : tie.Need-returns Inv-loop μ-loop
 returns c =
-    let l = c .before .before .before .before .before .before in
-    let s = l .before .before in
-    sym (at-hit (stirs (s .args .calendar .now) (s .args .today) (held (s .args .t4))) (l .loop .i) (first-held (s .args .t4) (s .pre .0) (l .loop .i) (search needs)) (sym (c .before .is-stirring .ensures) ∙ c .if2 .taken)) ∙ l .loop .inv .1
+    let k = c .before in
+    let m = k .before .before in
+    let l = m .before .before .before in
+    let s = l .before in
+    at-hit (test l) (s .args .t3) (s .pre) (l .loop .i) (l .loop .inv .1) (search needs)
+    (stirs-own _ _ _ _ _ (sym (m .may-stir .ensures) ∙ k .before .if1 .taken) _ _ (k .is-stirring .ensures) (c .if2 .taken))
 
 loop-less : tie.Need-loop-less Inv-loop μ-loop
 loop-less c = search needs
 
 loop-again : tie.Need-loop-again Inv-loop μ-loop
 loop-again c =
-    let l = c .before .before .before .before .before .before in
-    let s = l .before .before in
-    (search needs, sym (at-next (stirs (s .args .calendar .now) (s .args .today) (held (s .args .t4))) (l .loop .i) (first-held (s .args .t4) (s .pre .0) (l .loop .i) (search needs)) (sym (c .before .is-stirring .ensures) ∙ c .if2 .left)) ∙ l .loop .inv .1)
+    let k = c .before in
+    let m = k .before .before in
+    let l = m .before .before .before in
+    let s = l .before in
+    (search needs, at-next (test l) (s .args .t3) (s .pre) (l .loop .i) (l .loop .inv .1) (search needs) (stirs-own _ _ _ _ _ (sym (m .may-stir .ensures) ∙ k .before .if1 .taken) _ _ (k .is-stirring .ensures) (c .if2 .left)))
 
 loop-less-2 : tie.Need-loop-less-2 Inv-loop μ-loop
 loop-less-2 c = search needs
 
 loop-again-2 : tie.Need-loop-again-2 Inv-loop μ-loop
 loop-again-2 c =
-    let l = c .before .before .before .before in
-    let s = l .before .before in
-    (search needs, sym (at-next (stirs (s .args .calendar .now) (s .args .today) (held (s .args .t4))) (l .loop .i) (first-held (s .args .t4) (s .pre .0) (l .loop .i) (search needs)) (stirs-not (s .args .calendar .now) (s .args .today) (held (s .args .t4)) (l .loop .i) _ (s .args .last) (s .pre .1) (sym (c .before .may-stir .ensures) ∙ c .if1 .left))) ∙ l .loop .inv .1)
+    let m = c .before in
+    let l = m .before .before .before in
+    let s = l .before in
+    (search needs, at-next (test l) (s .args .t3) (s .pre) (l .loop .i) (l .loop .inv .1) (search needs) (stirs-not _ _ _ _ _ (sym (m .may-stir .ensures) ∙ c .if1 .left)))
 
 returns-2 : tie.Need-returns-2 Inv-loop μ-loop
 returns-2 c =
     let l = c .before in
-    let s = l .before .before in
-    sym (at-end (stirs (s .args .calendar .now) (s .args .today) (held (s .args .t4))) (l .loop .i) (none-held (s .args .t4) (s .pre .0) (l .loop .i) (search needs))) ∙ l .loop .inv .1
+    let s = l .before in
+    at-end (test l) (s .args .t3) (s .pre) (l .loop .i) (l .loop .inv .1) (search needs)
 
 pub any-stirs-spec : {M : Type 1} → statement M
 any-stirs-spec =

@@ -1,9 +1,7 @@
 -- `premise_run::change` meets its contract: the pass picks the step. Assumes nothing.
-use mathlib.Core.Path.{sym, ap, _∙_}
-use mathlib.Core.Bool.{Bool}
+use mathlib.Core.Path.{ap}
 use borrow.Author.Needs.{needs}
 use Rattle.premise.specs.Orders.{held}
-use Rattle.premise.specs.Clock.{ticked}
 use Rattle.premise_changes.proofs.Done.{room-case, done-case}
 use Rattle.premise_run.specs.declared.Pass.{Pass}
 use Rattle.premise_run.specs.Which.{stepOf}
@@ -13,22 +11,17 @@ use Rattle.premise_run.proofs.change.Tie as tie
 enum-told : tie.Need-enum-told
 enum-told c = search needs
 
-is-business-day-requires : tie.Need-is-business-day-requires
-is-business-day-requires c κs = search needs
-
-tick-requires : tie.Need-tick-requires
-tick-requires c κs =
-    let d = c .before in
-    let s = d .before .before .before .before .before in
+settle-requires : tie.Need-settle-requires
+settle-requires c κs =
+    let s = c .before .before .before .before .before in
     let a = s .args in
-    room-case _ (a .standing) (a .buffer .now) _
-    ((ap (λ (w : Pass). stepOf w (a .calendar .now) (a .today) (a .file .premise) (a .file .retailer) (held (a .file)) (a .i) (a .o)) (d .before .enum-told .given .1)) ∙ ap (λ (b : Bool). ticked b (a .today) (a .file .premise) (a .o)) (sym (d .is-business-day .ensures))) (s .pre .1)
+    (s .pre .0, room-case _ (a .standing) (a .buffer .now) _ (ap (λ (w : Pass). stepOf w (a .calendar .now) (a .today) (a .file .premise) (a .file .retailer) (held (a .file)) (a .i) (a .o)) (c .before .enum-told .given .1)) (s .pre .1))
 
 enum-told-2 : tie.Need-enum-told-2
 enum-told-2 c = search needs
 
-settle-requires : tie.Need-settle-requires
-settle-requires c κs =
+displace-requires : tie.Need-displace-requires
+displace-requires c κs =
     let s = c .before .before .before .before .before in
     let a = s .args in
     (s .pre .0, room-case _ (a .standing) (a .buffer .now) _ (ap (λ (w : Pass). stepOf w (a .calendar .now) (a .today) (a .file .premise) (a .file .retailer) (held (a .file)) (a .i) (a .o)) (c .before .enum-told2 .given .1)) (s .pre .1))
@@ -36,8 +29,8 @@ settle-requires c κs =
 enum-told-3 : tie.Need-enum-told-3
 enum-told-3 c = search needs
 
-displace-requires : tie.Need-displace-requires
-displace-requires c κs =
+lapse-requires : tie.Need-lapse-requires
+lapse-requires c κs =
     let s = c .before .before .before .before .before in
     let a = s .args in
     (s .pre .0, room-case _ (a .standing) (a .buffer .now) _ (ap (λ (w : Pass). stepOf w (a .calendar .now) (a .today) (a .file .premise) (a .file .retailer) (held (a .file)) (a .i) (a .o)) (c .before .enum-told3 .given .1)) (s .pre .1))
@@ -45,20 +38,11 @@ displace-requires c κs =
 enum-told-4 : tie.Need-enum-told-4
 enum-told-4 c = search needs
 
-lapse-requires : tie.Need-lapse-requires
-lapse-requires c κs =
-    let s = c .before .before .before .before .before in
-    let a = s .args in
-    (s .pre .0, room-case _ (a .standing) (a .buffer .now) _ (ap (λ (w : Pass). stepOf w (a .calendar .now) (a .today) (a .file .premise) (a .file .retailer) (held (a .file)) (a .i) (a .o)) (c .before .enum-told4 .given .1)) (s .pre .1))
-
-enum-told-5 : tie.Need-enum-told-5
-enum-told-5 c = search needs
-
 tell-requires : tie.Need-tell-requires
 tell-requires c κs =
     let s = c .before .before .before .before .before in
     let a = s .args in
-    room-case _ (a .standing) (a .buffer .now) _ (ap (λ (w : Pass). stepOf w (a .calendar .now) (a .today) (a .file .premise) (a .file .retailer) (held (a .file)) (a .i) (a .o)) (c .before .enum-told5 .given .1)) (s .pre .1)
+    room-case _ (a .standing) (a .buffer .now) _ (ap (λ (w : Pass). stepOf w (a .calendar .now) (a .today) (a .file .premise) (a .file .retailer) (held (a .file)) (a .i) (a .o)) (c .before .enum-told4 .given .1)) (s .pre .1)
 
 same-length : tie.Need-same-length
 same-length c = search needs
@@ -66,11 +50,8 @@ same-length c = search needs
 returns : tie.Need-returns
 returns c =
     let k = c .before .before in
-    let d = k .before .before in
-    let a = d .before .before .before .before .before .args in
-    done-case _ (a .standing) (a .buffer .now) _
-    ((ap (λ (w : Pass). stepOf w (a .calendar .now) (a .today) (a .file .premise) (a .file .retailer) (held (a .file)) (a .i) (a .o)) (d .before .enum-told .given .1)) ∙ ap (λ (b : Bool). ticked b (a .today) (a .file .premise) (a .o)) (sym (d .is-business-day .ensures)))
-    (k .tick .result) _ (k .tick .ensures)
+    let a = k .before .before .before .before .before .before .args in
+    done-case _ (a .standing) (a .buffer .now) _ (ap (λ (w : Pass). stepOf w (a .calendar .now) (a .today) (a .file .premise) (a .file .retailer) (held (a .file)) (a .i) (a .o)) (k .before .before .enum-told .given .1)) (k .settle .result) _ (k .settle .ensures)
 
 same-length-2 : tie.Need-same-length-2
 same-length-2 c = search needs
@@ -79,7 +60,7 @@ returns-2 : tie.Need-returns-2
 returns-2 c =
     let k = c .before .before in
     let a = k .before .before .before .before .before .before .args in
-    done-case _ (a .standing) (a .buffer .now) _ (ap (λ (w : Pass). stepOf w (a .calendar .now) (a .today) (a .file .premise) (a .file .retailer) (held (a .file)) (a .i) (a .o)) (k .before .before .enum-told2 .given .1)) (k .settle .result) _ (k .settle .ensures)
+    done-case _ (a .standing) (a .buffer .now) _ (ap (λ (w : Pass). stepOf w (a .calendar .now) (a .today) (a .file .premise) (a .file .retailer) (held (a .file)) (a .i) (a .o)) (k .before .before .enum-told2 .given .1)) (k .displace .result) _ (k .displace .ensures)
 
 same-length-3 : tie.Need-same-length-3
 same-length-3 c = search needs
@@ -88,7 +69,7 @@ returns-3 : tie.Need-returns-3
 returns-3 c =
     let k = c .before .before in
     let a = k .before .before .before .before .before .before .args in
-    done-case _ (a .standing) (a .buffer .now) _ (ap (λ (w : Pass). stepOf w (a .calendar .now) (a .today) (a .file .premise) (a .file .retailer) (held (a .file)) (a .i) (a .o)) (k .before .before .enum-told3 .given .1)) (k .displace .result) _ (k .displace .ensures)
+    done-case _ (a .standing) (a .buffer .now) _ (ap (λ (w : Pass). stepOf w (a .calendar .now) (a .today) (a .file .premise) (a .file .retailer) (held (a .file)) (a .i) (a .o)) (k .before .before .enum-told3 .given .1)) (k .lapse .result) _ (k .lapse .ensures)
 
 same-length-4 : tie.Need-same-length-4
 same-length-4 c = search needs
@@ -97,31 +78,19 @@ returns-4 : tie.Need-returns-4
 returns-4 c =
     let k = c .before .before in
     let a = k .before .before .before .before .before .before .args in
-    done-case _ (a .standing) (a .buffer .now) _ (ap (λ (w : Pass). stepOf w (a .calendar .now) (a .today) (a .file .premise) (a .file .retailer) (held (a .file)) (a .i) (a .o)) (k .before .before .enum-told4 .given .1)) (k .lapse .result) _ (k .lapse .ensures)
-
-same-length-5 : tie.Need-same-length-5
-same-length-5 c = search needs
-
-returns-5 : tie.Need-returns-5
-returns-5 c =
-    let k = c .before .before in
-    let a = k .before .before .before .before .before .before .args in
-    done-case _ (a .standing) (a .buffer .now) _ (ap (λ (w : Pass). stepOf w (a .calendar .now) (a .today) (a .file .premise) (a .file .retailer) (held (a .file)) (a .i) (a .o)) (k .before .before .enum-told5 .given .1)) (k .tell .result) _ (k .tell .ensures)
+    done-case _ (a .standing) (a .buffer .now) _ (ap (λ (w : Pass). stepOf w (a .calendar .now) (a .today) (a .file .premise) (a .file .retailer) (held (a .file)) (a .i) (a .o)) (k .before .before .enum-told4 .given .1)) (k .tell .result) _ (k .tell .ensures)
 
 pub change-spec : {M : Type 1} → statement M
 change-spec =
     tie.close
     (tie.spec
     enum-told
-    is-business-day-requires
-    tick-requires
-    enum-told-2
     settle-requires
-    enum-told-3
+    enum-told-2
     displace-requires
-    enum-told-4
+    enum-told-3
     lapse-requires
-    enum-told-5
+    enum-told-4
     tell-requires
     same-length
     returns
@@ -130,6 +99,4 @@ change-spec =
     same-length-3
     returns-3
     same-length-4
-    returns-4
-    same-length-5
-    returns-5)
+    returns-4)

@@ -3,7 +3,7 @@ use mathlib.Core.Path.{sym, _∙_}
 use borrow.Author.Needs.{needs}
 use borrow.Author.Tests.{not-true, not-false}
 use Rattle.premise.specs.Orders.{held}
-use Rattle.premise_settle.proofs.Cases.{way-none, way-at, way-nowhere}
+use Rattle.premise_settle.proofs.Cases.{way-none, way-contends}
 use Rattle.premise_settle.proofs.gives_way.Statement.{statement}
 use Rattle.premise_settle.proofs.gives_way.Tie as tie
 
@@ -16,37 +16,15 @@ returns c =
     let a = w .before .before .args in
     way-none (a .calendar .now) (a .today) (a .o) (held (a .file)) (a .i) (sym (w .is-contender .ensures) ∙ not-true _ (c .if1 .taken))
 
-kept-place-requires : tie.Need-kept-place-requires
-kept-place-requires c κs = search needs
-
-enum-known-place : tie.Need-enum-known-place
-enum-known-place c = search needs
-
-enum-told : tie.Need-enum-told
-enum-told c = search needs
+kept-elsewhere-requires : tie.Need-kept-elsewhere-requires
+kept-elsewhere-requires c κs = search needs
 
 returns-2 : tie.Need-returns-2
 returns-2 c =
-    let k = c .before .before .before in
-    let w = k .before .before in
+    let w = c .before .before in
     let a = w .before .before .args in
-    way-at (a .calendar .now) (a .today) (a .o) (held (a .file)) (a .i) _ (sym (w .is-contender .ensures) ∙ not-false _ (k .before .if1 .left)) (sym (k .kept-place .ensures) ∙ c .before .place .given .1)
-
-returns-3 : tie.Need-returns-3
-returns-3 c =
-    let k = c .before .before in
-    let w = k .before .before in
-    let a = w .before .before .args in
-    way-nowhere (a .calendar .now) (a .today) (a .o) (held (a .file)) (a .i) (sym (w .is-contender .ensures) ∙ not-false _ (k .before .if1 .left)) (sym (k .kept-place .ensures) ∙ c .enum-told .given .1)
+    c .kept-elsewhere .ensures
+    ∙ way-contends (a .calendar .now) (a .today) (a .o) (held (a .file)) (a .i) (sym (w .is-contender .ensures) ∙ not-false _ (c .before .if1 .left))
 
 pub gives-way-spec : {M : Type 1} → statement M
-gives-way-spec =
-    tie.close
-    (tie.spec
-    is-contender-requires
-    returns
-    kept-place-requires
-    enum-known-place
-    enum-told
-    returns-2
-    returns-3)
+gives-way-spec = tie.close (tie.spec is-contender-requires returns kept-elsewhere-requires returns-2)

@@ -1,10 +1,10 @@
--- `premise_quiet::may_stir` meets its contract: at each return the tests that led there pick the case of `mayStir`. Assumes nothing.
+-- `premise_stirs::may_stir` meets its contract: at each return the tests that led there pick the case of `mayStir`. Assumes nothing.
 use mathlib.Core.Path.{sym, _∙_}
 use borrow.Author.Needs.{needs}
 use borrow.Author.Tests.{not-true, not-false}
-use Rattle.premise_quiet.proofs.Cases.{may-permit, may-closed, may-near}
-use Rattle.premise_quiet.proofs.may_stir.Statement.{statement}
-use Rattle.premise_quiet.proofs.may_stir.Tie as tie
+use Rattle.premise_stirs.proofs.Cases.{may-permit, may-closed, may-near}
+use Rattle.premise_stirs.proofs.may_stir.Statement.{statement}
+use Rattle.premise_stirs.proofs.may_stir.Tie as tie
 
 returns : tie.Need-returns
 returns c =

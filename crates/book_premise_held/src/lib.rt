@@ -38,7 +38,7 @@ pub fn on_held(
             book: c,
         };
     }
-    let c = book_files::remove(b, at);
+    let c = book_shifts::remove(b, at);
     Reply {
         answer: answer,
         sent: p.sent,

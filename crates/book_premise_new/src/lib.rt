@@ -31,7 +31,7 @@ pub fn on_new(calendar: &[u8], b: Book, at: usize, r: Record, buffer: &mut [u8])
     if finds_no_place(r.kind, b.count) {
         return book_replies::refuse(Answer::BookFull, b);
     }
-    let blank = premise_orders::blank_file();
+    let blank = premise_files::blank_file();
     let slot = FileOrNone {
         held: false,
         file: blank,
@@ -41,7 +41,7 @@ pub fn on_new(calendar: &[u8], b: Book, at: usize, r: Record, buffer: &mut [u8])
     let after = p.after;
     if after.held {
         let f = after.file;
-        let c = book_files::insert(b, at, f);
+        let c = book_shifts::insert(b, at, f);
         return Reply {
             answer: answer,
             sent: p.sent,

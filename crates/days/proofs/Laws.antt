@@ -1,16 +1,31 @@
 -- Laws of the days layer's definitions: how a search and a count go on by a day, and what the layers above rely on. Assumes nothing.
 use Prim.Native.Nat.{ℕ, zero, suc, _+_, _-_, _<_, _≤_}
-use mathlib.Core.Path.{_≡_, refl, sym, ap, _∙_}
+use mathlib.Core.Path.{_≡_, refl, sym, ap, ap₂, _∙_}
 use mathlib.Core.Logic.{_⊎_, inl, inr, ⊎-elim}
 use mathlib.Core.List.{List}
-use mathlib.Core.Bool.{Bool, true, false, cond}
+use mathlib.Core.Bool.{Bool, true, false, cond, _&&_}
 use native.Mathlib.Numerals.{add-one}
 use native.Mathlib.Omega.{arith}
-use lib.Dec.{eqb}
-use borrow.Author.Tests.{le-leb, eqb-true, eqb-false}
+use lib.Dec.{eqb, leb}
+use lib.ListN.{length, getD}
+use borrow.Author.Tests.{lt-ltb, le-ltb, le-leb, lt-leb, eqb-true, eqb-false}
 use Rattle.days.specs.Days.{lastDay, noDay, kindOfDay, isBusinessDay, startsSwitches, firstStart, switchDate}
 use Rattle.days.specs.Window.{countFrom, businessDays, inWindow}
 use Rattle.days.specs.Laws.{NoneBefore, FirstStart, NoStart, SwitchDateIs, PastInWindow}
+
+-- the kind of a day, by its byte and by whether the calendar has one
+module _ (calendar : List ℕ) (day : ℕ) where
+  pub kind-known : day < length calendar → getD calendar day 0 ≤ 1 → getD calendar day 0 ≡ kindOfDay calendar day
+  unfolding kindOfDay
+  kind-known h k = sym (ap₂ (λ (inside known : Bool). cond (inside && known) (getD calendar day 0) 2) (lt-ltb _ _ h) (le-leb _ _ k))
+
+  pub kind-unknown : day < length calendar → 1 < getD calendar day 0 → 2 ≡ kindOfDay calendar day
+  unfolding kindOfDay
+  kind-unknown h k = sym (ap₂ (λ (inside known : Bool). cond (inside && known) (getD calendar day 0) 2) (lt-ltb _ _ h) (lt-leb _ _ k))
+
+  pub kind-outside : length calendar ≤ day → 2 ≡ kindOfDay calendar day
+  unfolding kindOfDay
+  kind-outside h = sym (ap (λ (inside : Bool). cond (inside && leb (getD calendar day 0) 1) (getD calendar day 0) 2) (le-ltb _ _ h))
 
 -- the search from a day on
 module _ (calendar : List ℕ) (day : ℕ) where

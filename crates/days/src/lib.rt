@@ -1,8 +1,8 @@
 // The days layer. A calendar is lent bytes, one per day; each function answers for every calendar and every day number.
-// Its face: `is_day`, `kind_of_day`, `is_business_day`, `switch_date`, `in_window`, `last_in_window`, and the numbers below.
+// Its face: `is_day`, `kind_of_day`, `is_business_day`, `switch_date`, `last_in_window`, the numbers below, and `day_window::in_window`.
 ghost use mathlib.Core.Path.{_≡_};
 ghost use Rattle.days.specs.Days.{isDay, kindOfDay, isBusinessDay, switchDate};
-ghost use Rattle.days.specs.Window.{inWindow, LastInWindow};
+ghost use Rattle.days.specs.Window.{LastInWindow};
 
 // The last day that there is.
 pub const LAST_DAY: u16 = 4095;
@@ -53,28 +53,6 @@ pub fn switch_date(calendar: &[u8], today: u16) -> u16
         }
         day += 1;
     }
-}
-
-// Whether a scheduled day is a day with at most `width` Retail Business Days from today up to it, its own day not counted.
-// The count stops at the first business day too many: most orders are far from their day.
-pub fn in_window(calendar: &[u8], width: u8, today: u16, scheduled: u16) -> bool
-    ensures { λ r. ⌜ r ≡ inWindow (now (calendar .entry)) width today scheduled ⌝ }
-{
-    if LAST_DAY < scheduled {
-        return false;
-    }
-    let mut left = width;
-    let mut day = today;
-    while day < scheduled {
-        if is_business_day(calendar, day) {
-            if left == 0 {
-                return false;
-            }
-            left -= 1;
-        }
-        day += 1;
-    }
-    true
 }
 
 // The last day in window: the business day with which one too many would lie before the next, or the last day that there is.

@@ -55,7 +55,7 @@ pub fn cancel(premise: u64, addressee: u32, o: Order, standing: usize, buffer: &
 pub fn is_near(calendar: &[u8], today: u16, o: Order) -> bool
     ensures { λ r. ⌜ r ≡ near (now (calendar .entry)) today o ⌝ }
 {
-    days::in_window(calendar, days::WINDOW_WIDTH, today, o.scheduled)
+    day_window::in_window(calendar, days::WINDOW_WIDTH, today, o.scheduled)
 }
 
 // Whether an order is a switch, standard or self-selected.

@@ -1,3 +1,2 @@
 pub mod Rows
-pub mod Done
-pub mod Refusing
+pub mod Slots

@@ -6,7 +6,7 @@ ghost use Rattle.records.specs.Layout.{recordLength};
 ghost use Rattle.records.specs.Records.{reading};
 ghost use Rattle.records.specs.Notices.{decode};
 
-// Numbers in bytes, low byte first, and a record's fields.
+// A record's fields, each read from its bytes.
 mod fields;
 
 use fields::fields_of;

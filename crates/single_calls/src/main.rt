@@ -1,11 +1,11 @@
 // Makes single record calls on books handed in as bytes, damaged ones too, and prints what comes back, so that the proved call can be
 // compared with the second program call by call. The layout of the bytes and of the lines stands at the top of the second program's
 // callcheck.rs (reference/stacking/src/bin).
-mod bytes;
-mod lines;
-
 use book::Book;
-use bytes::BOOK_BYTES;
+use call_bytes::BOOK_BYTES;
+use call_input::complain;
+use call_input::take_length;
+use call_input::take_part;
 
 // The longest calendar, record and notice buffer that are taken.
 const LONGEST_CALENDAR: usize = 8_192;
@@ -16,45 +16,6 @@ const LONGEST_BUFFER: usize = 65_536;
 
 // What the lent buffer is filled with.
 const PATTERN: u8 = 165;
-
-// Says on standard error what is wrong with the input.
-fn complain(what: &[u8]) {
-    io::write_all(libc::STDERR_FILENO, b"single_calls: ");
-    io::write_all(libc::STDERR_FILENO, what);
-    io::write_all(
-        libc::STDERR_FILENO,
-        b"; give whole calls, as callcheck --make writes them\n",
-    );
-}
-
-// Reads so many bytes to the start of a buffer; whether they came. (`0..n`, not `..n`: the prover finds its length by itself.)
-fn take(n: usize, buffer: &mut [u8]) -> bool {
-    if buffer.len() < n {
-        complain(b"a length is above what is taken");
-        return false;
-    }
-    let got = tape_io::read_up_to(libc::STDIN_FILENO, &mut buffer[0..n]);
-    if got.failed || got.count < n {
-        complain(b"the calls break off or can't be read");
-        return false;
-    }
-    true
-}
-
-// Reads a length of four bytes; too large a one where they did not come.
-fn take_length() -> usize {
-    let mut four = [0u8; 4];
-    if !take(4, &mut four) {
-        return usize::MAX;
-    }
-    bytes::four(&four, 0) as usize
-}
-
-// Reads a length and so many bytes to the start of a buffer; the length, or too large a one where they did not come.
-fn take_part(buffer: &mut [u8]) -> usize {
-    let n = take_length();
-    if take(n, buffer) { n } else { usize::MAX }
-}
 
 // Fills a buffer with the pattern.
 fn fill(buffer: &mut [u8]) {
@@ -71,11 +32,11 @@ fn make(place: u64, b: Book, calendar: &[u8], bytes: &[u8], buffer: &mut [u8]) {
     let reply = book_calls::record_call(calendar, b, bytes, buffer);
     let answer = reply.answer;
     let number = tape_player::number_of(answer);
-    lines::say(b'c', &[place, number as u64, reply.sent as u64]);
-    lines::say_notices(buffer, reply.sent);
-    lines::say_changed(buffer, reply.sent, PATTERN);
+    call_lines::say(b'c', &[place, number as u64, reply.sent as u64]);
+    call_lines::say_notices(buffer, reply.sent);
+    call_lines::say_changed(buffer, reply.sent, PATTERN);
     let c = reply.book;
-    lines::say_book(c);
+    call_lines::say_book(c);
 }
 
 // Reads the rest of a call on a book, makes it and prints its lines; whether another may follow.
@@ -89,6 +50,9 @@ fn play_on(place: u64, b: Book, calendar: &mut [u8], bytes: &mut [u8], buffer: &
         return false;
     }
     let room = take_length();
+    if room == call_input::NO_LENGTH {
+        return false;
+    }
     if buffer.len() < room {
         complain(b"a buffer is longer than what is taken");
         return false;
@@ -111,7 +75,7 @@ fn play_by(
     bytes: &mut [u8],
     buffer: &mut [u8],
 ) -> bool {
-    let got = tape_io::read_up_to(libc::STDIN_FILENO, book);
+    let got = tape_input::read_up_to(libc::STDIN_FILENO, book);
     if got.failed {
         complain(b"standard input can't be read");
         return false;
@@ -123,7 +87,7 @@ fn play_by(
         complain(b"the calls break off");
         return false;
     }
-    let b = bytes::book_from(book);
+    let b = call_bytes::book_from(book);
     play_on(place, b, calendar, bytes, buffer)
 }
 

@@ -1,5 +1,5 @@
 -- How long the lines can be: each number of a line below a power of ten has at most so many digits. Assumes nothing.
-use Prim.Native.Nat.{ℕ, _+_, _*_, _≤_, _<_}
+use Prim.Native.Nat.{ℕ, _+_, _≤_, _<_}
 use mathlib.Core.Path.{_≡_}
 use mathlib.Core.List.{List, [], _∷_}
 use native.Mathlib.Omega.{arith}
@@ -7,21 +7,11 @@ use lib.ListN.{length, length-append}
 use Rattle.records.specs.Layout.{Bytes}
 use Rattle.records.specs.Notices.{decode}
 use Rattle.records.proofs.Decode.{decode-fits}
-use Rattle.tape_text.specs.Text.{decimal, spaced, recordLine, noticeLine, fileLine, totalLine}
-use Rattle.tape_text.specs.Lengths.{noticeLineMost, fileLineMost, AnyLettered, AnyRecordLine, RecordLine, NoticeLine, FileLine, TotalLine}
-use Rattle.tape_text.proofs.Digits.{decimal-within, decimal-below}
-
--- one number more in a line
-spaced-more : (n : ℕ) (ns : List ℕ) → length (spaced (n ∷ ns)) ≡ length (decimal n) + length (spaced ns) + 1
-spaced-more n ns = omega (arith, length-append (decimal n) (spaced ns))
-
--- at most 20 digits and a space for each number of a line
-any-spaced : (ns : List ℕ) → length (spaced ns) ≤ 1 + 21 * length ns
-any-spaced [] = omega arith
-any-spaced (n ∷ ns) = omega (arith, spaced-more n ns, decimal-within n, any-spaced ns)
-
-pub any-lettered : AnyLettered
-any-lettered letter ns = omega (arith, any-spaced ns)
+use Rattle.tape_numbers.specs.Numbers.{decimal, spaced}
+use Rattle.tape_numbers.proofs.Digits.{decimal-within, decimal-below}
+use Rattle.tape_numbers.proofs.Lengths.{spaced-more}
+use Rattle.tape_text.specs.Text.{recordLine, noticeLine, fileLine, totalLine}
+use Rattle.tape_text.specs.Lengths.{noticeLineMost, fileLineMost, AnyRecordLine, RecordLine, NoticeLine, FileLine, TotalLine}
 
 record-length : (place answer n : ℕ) → length (recordLine place answer n) ≡ length (decimal place) + length (decimal answer) + length (decimal n) + 3
 unfolding recordLine

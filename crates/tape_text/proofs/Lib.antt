@@ -1,6 +1,3 @@
-pub mod Digits
 pub mod Puts
-pub mod Filled
-pub mod Lined
 pub mod Lengths
 pub mod Sample

@@ -2,7 +2,8 @@
 use mathlib.Core.Path.{_≡_, refl}
 use mathlib.Core.List.{[], _∷_}
 use Rattle.records.specs.declared.Notice.{Notice}
-use Rattle.tape_text.specs.Text.{decimal, recordLine, noticeLine, fileLine, totalLine}
+use Rattle.tape_numbers.specs.Numbers.{decimal}
+use Rattle.tape_text.specs.Text.{recordLine, noticeLine, fileLine, totalLine}
 
 -- 1 0 0
 first-record : recordLine 1 0 0 ≡ 49 ∷ 32 ∷ 48 ∷ 32 ∷ 48 ∷ 10 ∷ []

@@ -1,10 +1,9 @@
 -- How long a line can be, as statements; proofs/Lengths.antt proves them. With them a caller lends a fixed room instead of asking each text's own length.
-use Prim.Native.Nat.{ℕ, _+_, _*_, _≤_, _<_}
-use mathlib.Core.List.{List}
+use Prim.Native.Nat.{ℕ, _≤_, _<_}
 use lib.ListN.{length}
 use Rattle.records.specs.declared.Notice.{Notice}
 use Rattle.records.specs.Notices.{FitsFields}
-use Rattle.tape_text.specs.Text.{lettered, recordLine, noticeLine, fileLine, totalLine}
+use Rattle.tape_text.specs.Text.{recordLine, noticeLine, fileLine, totalLine}
 
 -- The first 65,520 bytes of a tape hold at most so many records.
 abbrev pub mostRecords : ℕ
@@ -17,13 +16,6 @@ lastAnswer = 15
 -- a call gives at most so many notices
 abbrev pub mostNotices : ℕ
 mostNotices = 1024
-
--- a line that begins with a letter, for any numbers: the letter, for each number a space and 20 digits, the end
-abbrev pub letteredMost : ℕ → ℕ
-letteredMost count = 2 + 21 * count
-
-abbrev pub AnyLettered : Type 0
-AnyLettered = (letter : ℕ) (ns : List ℕ) → length (lettered letter ns) ≤ letteredMost (length ns)
 
 -- a record's line, for any numbers: three of 20 digits, two spaces, the end
 abbrev pub anyRecordLineMost : ℕ

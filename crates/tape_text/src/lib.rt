@@ -1,18 +1,13 @@
 // The tape program's text: each line of document 01's section "The tape program", written to a buffer behind what stands there.
-ghost use mathlib.Core.Path.{_≡_};
-ghost use mathlib.Core.List.{_∷_};
 ghost use Prim.Native.Nat.{_+_, _≤_};
 ghost use lib.ListN.{length};
 ghost use Rattle.records.specs.Layout.{recordLength};
 ghost use Rattle.records.specs.Notices.{decode};
-ghost use Rattle.tape_text.specs.Text.{space, decimal, spaced, lettered, recordLine, noticeLine, fileLine, totalLine, Puts};
+ghost use Rattle.tape_text.specs.Text.{recordLine, noticeLine, fileLine, totalLine, Puts};
 use record_bytes::read_notice;
-
-const SPACE: u8 = b' ';
-
-const NEWLINE: u8 = b'\n';
-
-const DIGIT_ZERO: u8 = b'0';
+use tape_numbers::put_lettered;
+use tape_numbers::put_number;
+use tape_numbers::put_spaced;
 
 // The letters that begin a line.
 const NOTICE: u8 = b'n';
@@ -20,69 +15,6 @@ const NOTICE: u8 = b'n';
 const FILE: u8 = b'p';
 
 const TOTAL: u8 = b't';
-
-// How many digits a number has, so that they can be written from the last to the first.
-fn count_digits(n: u64) -> usize
-    ensures { λ r. ⌜ r ≡ length (decimal n) ⌝ }
-{
-    let mut rest = n;
-    let mut count: usize = 1;
-    while rest >= 10 {
-        rest = rest / 10;
-        count += 1;
-    }
-    count
-}
-
-// A number in base ten.
-fn put_number(n: u64, start: usize, out: &mut [u8]) -> usize
-    requires { ⌜ start + length (decimal n) ≤ length (now out) ⌝ }
-    ensures { λ r. ⌜ Puts start (now (out .entry)) (now (out .exit)) r (decimal n) ⌝ }
-{
-    let stop = start + count_digits(n);
-    let mut left = n;
-    let mut at = stop;
-    while left >= 10 {
-        at -= 1;
-        out[at] = DIGIT_ZERO + (left % 10) as u8;
-        left = left / 10;
-    }
-    out[start] = DIGIT_ZERO + left as u8;
-    stop
-}
-
-// A number with a space before it.
-fn put_next(n: u64, start: usize, out: &mut [u8]) -> usize
-    requires { ⌜ start + length (space ∷ decimal n) ≤ length (now out) ⌝ }
-    ensures { λ r. ⌜ Puts start (now (out .entry)) (now (out .exit)) r (space ∷ decimal n) ⌝ }
-{
-    out[start] = SPACE;
-    put_number(n, start + 1, out)
-}
-
-// Numbers with a space before each, to the end of the line.
-fn put_spaced(numbers: &[u64], start: usize, out: &mut [u8]) -> usize
-    requires { ⌜ start + length (spaced (now numbers)) ≤ length (now out) ⌝ }
-    ensures { λ r. ⌜ Puts start (now (out .entry)) (now (out .exit)) r (spaced (now (numbers .entry))) ⌝ }
-{
-    let mut at = start;
-    let mut i: usize = 0;
-    while i < numbers.len() {
-        at = put_next(numbers[i], at, out);
-        i += 1;
-    }
-    out[at] = NEWLINE;
-    at + 1
-}
-
-// A line that begins with a letter.
-pub fn put_lettered(letter: u8, numbers: &[u64], start: usize, out: &mut [u8]) -> usize
-    requires { ⌜ start + length (lettered letter (now numbers)) ≤ length (now out) ⌝ }
-    ensures { λ r. ⌜ Puts start (now (out .entry)) (now (out .exit)) r (lettered letter (now (numbers .entry))) ⌝ }
-{
-    out[start] = letter;
-    put_spaced(numbers, start + 1, out)
-}
 
 // The line of a record: its place, its answer, and how many notices it gave.
 pub fn put_record(place: usize, answer: u8, n: usize, start: usize, out: &mut [u8]) -> usize

@@ -6,8 +6,10 @@ use Rattle.premise.specs.declared.File.{File}
 use Rattle.premise.specs.declared.FileOrNone.{FileOrNone}
 use Rattle.premise.specs.declared.Replied.{Replied}
 use Rattle.premise.specs.OnePremise.{step}
-use Rattle.premise_steps.proofs.Rows.{on, no-file}
-use Rattle.premise_steps.proofs.Done.{answered-quiet, slot-none, none-form}
+use Rattle.premise_replies.proofs.Decided.{on}
+use Rattle.premise_replies.proofs.Answered.{answered-quiet}
+use Rattle.premise_steps.proofs.Rows.{no-file}
+use Rattle.premise_steps.proofs.Slots.{slot-none, none-form}
 use Rattle.premise_steps.proofs.no_premise.Statement.{statement}
 use Rattle.premise_steps.proofs.no_premise.Tie as tie
 

@@ -6,9 +6,11 @@ use Rattle.premise.specs.declared.Answer.the-variants.{Accepted, PremiseHeld}
 use Rattle.premise.specs.declared.File.{File}
 use Rattle.premise.specs.Steps.{newFile}
 use Rattle.premise.specs.OnePremise.{step}
-use Rattle.premise_steps.specs.Parts.{replying}
-use Rattle.premise_steps.proofs.Rows.{on, create-held, create-done}
-use Rattle.premise_steps.proofs.Done.{answered-quiet, slot-held, slot-none}
+use Rattle.premise_replies.specs.Parts.{replying}
+use Rattle.premise_replies.proofs.Decided.{on}
+use Rattle.premise_replies.proofs.Answered.{answered-quiet}
+use Rattle.premise_steps.proofs.Rows.{create-held, create-done}
+use Rattle.premise_steps.proofs.Slots.{slot-held, slot-none}
 use Rattle.premise_steps.proofs.on_create.Statement.{statement}
 use Rattle.premise_steps.proofs.on_create.Tie as tie
 

@@ -4,7 +4,7 @@ use mathlib.Core.Logic.{⊎-elim}
 use native.Mathlib.Omega.{arith}
 use borrow.Author.Needs.{needs}
 use Rattle.records.specs.Records.{kindCreate}
-use Rattle.premise_steps.proofs.Done.{room-slot, answered-slot}
+use Rattle.premise_steps.proofs.Slots.{room-slot, answered-slot}
 use Rattle.premise_steps.proofs.on_record.Statement.{statement}
 use Rattle.premise_steps.proofs.on_record.Tie as tie
 

@@ -7,8 +7,9 @@ use borrow.Author.Needs.{needs}
 use Rattle.premise.specs.declared.Answer.the-variants.{Accepted, OrderOpen}
 use Rattle.premise.specs.declared.File.{File}
 use Rattle.premise.specs.declared.Replied.{Replied}
-use Rattle.premise_steps.proofs.Rows.{on, retire-open, retire-done}
-use Rattle.premise_steps.proofs.Done.{answered-quiet}
+use Rattle.premise_replies.proofs.Decided.{on}
+use Rattle.premise_replies.proofs.Answered.{answered-quiet}
+use Rattle.premise_steps.proofs.Rows.{retire-open, retire-done}
 use Rattle.premise_steps.proofs.on_retire.Statement.{statement}
 use Rattle.premise_steps.proofs.on_retire.Tie as tie
 

@@ -2,7 +2,7 @@
 use borrow.Author.Needs.{needs}
 use mathlib.Core.Path.{ap}
 use Rattle.tape_text.specs.Text.{noticeLine}
-use Rattle.tape_text.proofs.Puts.{room-as, puts-as}
+use Rattle.tape_numbers.proofs.Puts.{room-as, puts-as}
 use Rattle.tape_text.proofs.put_notice.Statement.{statement}
 use Rattle.tape_text.proofs.put_notice.Tie as tie
 

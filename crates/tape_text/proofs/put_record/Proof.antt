@@ -1,8 +1,9 @@
 -- `tape_text::put_record` meets its contract: the place, and the other two numbers behind it. Assumes nothing.
 use borrow.Author.Needs.{needs}
 use mathlib.Core.List.{[], _∷_}
-use Rattle.tape_text.specs.Text.{decimal, spaced, recordLine}
-use Rattle.tape_text.proofs.Puts.{room-first, room-then, puts-then}
+use Rattle.tape_numbers.specs.Numbers.{decimal, spaced}
+use Rattle.tape_text.specs.Text.{recordLine}
+use Rattle.tape_numbers.proofs.Puts.{room-first, room-then, puts-then}
 use Rattle.tape_text.proofs.put_record.Statement.{statement}
 use Rattle.tape_text.proofs.put_record.Tie as tie
 

@@ -3,7 +3,7 @@ use borrow.Author.Needs.{needs}
 use native.Mathlib.Omega.{arith}
 use mathlib.Core.Path.{sym}
 use Rattle.records.specs.Layout.{fieldOf}
-use Rattle.record_bytes.proofs.Numbers.{read-one}
+use Rattle.record_numbers.proofs.Numbers.{read-one}
 use Rattle.record_bytes.proofs.fields.fields_of.Statement.{statement}
 use Rattle.record_bytes.proofs.fields.fields_of.Tie as tie
 

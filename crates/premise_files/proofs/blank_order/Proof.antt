@@ -1,0 +1,10 @@
+-- `premise_files::blank_order` meets its contract: every field is zero. Assumes nothing.
+use mathlib.Core.Path.{refl}
+use Rattle.premise_files.proofs.blank_order.Statement.{statement}
+use Rattle.premise_files.proofs.blank_order.Tie as tie
+
+returns : tie.Need-returns
+returns c = refl
+
+pub blank-order-spec : {M : Type 1} → statement M
+blank-order-spec = tie.close (tie.spec returns)

@@ -1,0 +1,11 @@
+-- `record_numbers::wide` meets its contract: a byte is below 256. Assumes nothing.
+use mathlib.Core.Path.{refl}
+use borrow.Author.Needs.{needs}
+use Rattle.record_numbers.proofs.wide.Statement.{statement}
+use Rattle.record_numbers.proofs.wide.Tie as tie
+
+returns : tie.Need-returns
+returns c = (refl, search needs)
+
+pub wide-spec : {M : Type 1} → statement M
+wide-spec = tie.close (tie.spec returns)

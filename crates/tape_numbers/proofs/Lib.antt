@@ -1,0 +1,5 @@
+pub mod Digits
+pub mod Puts
+pub mod Filled
+pub mod Lined
+pub mod Lengths

@@ -55,10 +55,10 @@ marked-accepted calendar day (some f) = refl
 
 module _ (calendar : List ℕ) (b : Book) where
   -- by the first row
-  abbrev decided : Answer → Reading → Result
+  abbrev pub decided : Answer → Reading → Result
   decided first d = cond (eqb (number first) 0) (onReading calendar b d) (refusal first b)
 
-  refuses : (first : Answer) (d : Reading) → Refuses first → decided first d ≡ refusal first b
+  pub refuses : (first : Answer) (d : Reading) → Refuses first → decided first d ≡ refusal first b
   refuses first d n = rw (ne-eqb (number first) 0 n)
 
   accepts : (first : Answer) (d : Reading) → first ≡ Accepted → decided first d ≡ onReading calendar b d

@@ -30,7 +30,7 @@ marks-few calendar day (f ∷ fs) u =
     )
 
 pub mark-all-few : MarkAllFew
-mark-all-few calendar b r k = omega (arith, marks-few calendar (r .day) (filesOf b) (k .files), k .few, count-is b k)
+mark-all-few calendar b day k = omega (arith, marks-few calendar day (filesOf b) (k .files), k .few, count-is b k)
 
 pub step-all-few : StepAllFew
 step-all-few calendar b r k w t =
@@ -40,5 +40,5 @@ pub call-few : CallFew
 call-few calendar b bytes lent =
     by-call (λ x. recordLength * length (x .notices) ≤ length lent) calendar b bytes lent
     (omega arith)
-    (λ r p w t. omega (arith, p .room, mark-all-few calendar b r (book-kept-means b .0 (p .kept))))
+    (λ r p w t. omega (arith, p .room, mark-all-few calendar b (r .day) (book-kept-means b .0 (p .kept))))
     (λ r p w t full. omega (arith, p .room, step-all-few calendar b r (book-kept-means b .0 (p .kept)) w t))

@@ -10,6 +10,7 @@ pub mod Demand1
 pub mod Picks
 pub mod Acts
 pub mod OnHeld
+pub mod ByReading
 pub mod OnWay
 pub mod OneCall
 pub mod Demand3

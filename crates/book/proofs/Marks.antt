@@ -16,7 +16,7 @@ use Rattle.book.specs.Calls.{markedFiles}
 use Rattle.book.proofs.Files.{Rising}
 
 module _ (calendar : List ℕ) (day : ℕ) where
-  marked-one : (f : File) → FileKept f → KeptFor (f .premise) (marked calendar day f .file)
+  pub marked-one : (f : File) → FileKept f → KeptFor (f .premise) (marked calendar day f .file)
   marked-one f k = mark-keeps calendar day f (f .premise) (record { number = refl; kept = k })
 
   -- the file found afterwards is the one found before, marked

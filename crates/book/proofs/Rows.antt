@@ -18,7 +18,7 @@ use Rattle.records.specs.declared.Reading.the-variants.{Malformed, Says}
 use Rattle.records.specs.Records.{reading, kindCreate}
 use Rattle.premise.specs.declared.File.{File}
 use Rattle.premise.specs.declared.Answer.{Answer}
-use Rattle.premise.specs.declared.Answer.the-variants.{Accepted, ShortBuffer, NotWellKept, MalformedRecord, BookFull, NotNextDay}
+use Rattle.premise.specs.declared.Answer.the-variants.{Accepted, ShortBuffer, NotWellKept, MalformedRecord, NoSuchPremise, BookFull, NotNextDay}
 use Rattle.premise.specs.Steps.{is}
 use Rattle.premise.specs.Refusals.{Row, row, firstRow, number, isHeld, ordersOf, premiseRows, orderRows, rows}
 use Rattle.premise.proofs.Answers.{first-row-skips, answer-is-first-row, zero-where-no-row}
@@ -40,6 +40,9 @@ unkept-refuses e = let a = accepted-is-zero NotWellKept .0 e in let z : _≡_ {A
 
 pub malformed-refuses : Refuses MalformedRecord
 malformed-refuses e = let a = accepted-is-zero MalformedRecord .0 e in let z : _≡_ {A = ℕ} 0 1 = cc in omega arith
+
+pub not-held-refuses : Refuses NoSuchPremise
+not-held-refuses e = let a = accepted-is-zero NoSuchPremise .0 e in let z : _≡_ {A = ℕ} 0 1 = cc in omega arith
 
 full-refuses : Refuses BookFull
 full-refuses e = let a = accepted-is-zero BookFull .0 e in let z : _≡_ {A = ℕ} 0 1 = cc in omega arith

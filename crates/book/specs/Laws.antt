@@ -1,25 +1,28 @@
 -- What the layers above rely on about the book, as statements; proofs/ proves each.
-use Prim.Native.Nat.{ℕ, _*_, _≤_, _<_}
+use Prim.Native.Nat.{ℕ, _+_, _*_, _≤_, _<_}
 use mathlib.Core.Path.{_≡_}
 use mathlib.Core.Logic.{_↔_}
 use mathlib.Core.List.{List, map}
-use mathlib.Core.Option.{some}
-use mathlib.Core.Bool.{true, false}
+use mathlib.Core.Option.{none, some}
+use mathlib.Core.Bool.{true, false, cond}
+use lib.Dec.{eqb}
 use lib.ListN.{length, getD, set}
 use Rattle.lists.specs.Search.{Each}
 use Rattle.days.specs.Days.{lastDay}
 use Rattle.records.specs.declared.Record.{Record}
-use Rattle.records.specs.declared.Reading.the-variants.{Says}
+use Rattle.records.specs.declared.Reading.the-variants.{Malformed, Says}
 use Rattle.records.specs.Layout.{recordLength}
 use Rattle.records.specs.Records.{kindNewOrder, kindReply, kindDayMark, wellFormed, reading}
 use Rattle.premise.specs.declared.File.{File}
+use Rattle.premise.specs.declared.Answer.the-variants.{MalformedRecord, NoSuchPremise, NotNextDay}
 use Rattle.premise.specs.Steps.{is}
+use Rattle.premise.specs.Refusals.{needsPremise}
 use Rattle.premise.specs.OnePremise.{Given, step}
 use Rattle.premise.specs.WellKept.{FileKept}
 use Rattle.premise.specs.Laws.{KeptFor}
 use Rattle.book.specs.declared.Book.{Book}
-use Rattle.book.specs.Book.{mostFiles, filesOf, bookOf, freshBook, risesFrom, bookKept}
-use Rattle.book.specs.Calls.{noticeBytes, onMark, onPremise, call}
+use Rattle.book.specs.Book.{mostFiles, filesOf, bookOf, freshBook, risesFrom, bookKept, fileFor}
+use Rattle.book.specs.Calls.{noticeBytes, markedFiles, markedNotices, onMark, onPremise, refusal, call}
 
 -- ---- well kept
 -- the facts of a well-kept book
@@ -49,7 +52,7 @@ CallKeeps = (calendar : List ℕ) (b : Book) (bytes lent : List ℕ) → bookKep
 -- ---- the notices
 -- a day mark's notices, and those of any other record, go into the shortest buffer that is taken ..
 abbrev pub MarkAllFew : Type 0
-MarkAllFew = (calendar : List ℕ) (b : Book) (r : Record) → BookKept b → recordLength * length (onMark calendar b r .notices) ≤ noticeBytes
+MarkAllFew = (calendar : List ℕ) (b : Book) (day : ℕ) → BookKept b → recordLength * length (markedNotices calendar day (filesOf b)) ≤ noticeBytes
 
 abbrev pub StepAllFew : Type 0
 StepAllFew =
@@ -95,3 +98,30 @@ CallOnHeld =
     → bookKept b ≡ true → noticeBytes ≤ length lent → reading bytes ≡ Says r → OnHeld b at past r
     → givenAt calendar b at past r .state .file ≡ some g
     → StoresFile calendar b bytes lent r at past g
+
+-- ---- a call by what its record says, without a look into the files
+-- malformed bytes get 3
+abbrev pub CallMalformed : Type 0
+CallMalformed =
+    (calendar : List ℕ) (b : Book) (bytes lent : List ℕ) → bookKept b ≡ true → noticeBytes ≤ length lent → reading bytes ≡ Malformed
+    → call calendar b bytes lent ≡ refusal MalformedRecord b
+
+-- a record of kinds 2 to 9 of a premise that is not held gets 4
+abbrev pub CallNotHeld : Type 0
+CallNotHeld =
+    (calendar : List ℕ) (b : Book) (bytes lent : List ℕ) (r : Record)
+    → bookKept b ≡ true → noticeBytes ≤ length lent → reading bytes ≡ Says r → needsPremise r ≡ true → fileFor (r .premise) (filesOf b) ≡ none
+    → call calendar b bytes lent ≡ refusal NoSuchPremise b
+
+-- a day mark marks every file on the day after T, and gets 15 on any other
+abbrev pub CallOnMark : Type 0
+CallOnMark =
+    (calendar : List ℕ) (b : Book) (bytes lent : List ℕ) (r : Record)
+    → bookKept b ≡ true → noticeBytes ≤ length lent → reading bytes ≡ Says r → is kindDayMark r ≡ true
+    → call calendar b bytes lent ≡ cond (eqb (r .day) (b .today + 1)) (onMark calendar b r) (refusal NotNextDay b)
+
+-- a day mark leaves every premise in its place
+abbrev pub MarkKeepsNumbers : Type 0
+MarkKeepsNumbers =
+    (calendar : List ℕ) (b : Book) (day : ℕ) → BookKept b
+    → numbersOf (bookOf day (markedFiles calendar day (filesOf b))) ≡ numbersOf b

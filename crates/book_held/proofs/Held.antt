@@ -1,7 +1,7 @@
 -- A record of kinds 3 to 9 on the file of its premise: what it asks of the layer below is met, and what comes of it is what is promised.
 -- Assumes nothing.
 use Prim.Native.Nat.{ℕ, _≤_, _<_}
-use mathlib.Core.Path.{_≡_, refl, sym, ap, subst, subst⁻¹, _∙_}
+use mathlib.Core.Path.{_≡_, refl, ap, subst}
 use mathlib.Core.List.{List}
 use mathlib.Core.Option.{Option, none, some}
 use mathlib.Core.Bool.{true, false, false≢true}
@@ -12,7 +12,6 @@ use borrow.Author.Tests.{ne-eqb}
 use Rattle.lists.proofs.SearchLaws.{each-at}
 use Rattle.records.specs.declared.Record.{Record}
 use Rattle.records.specs.Records.{kindCreate, kindReply, kindDayMark}
-use Rattle.records.specs.Notices.{Emits}
 use Rattle.records.proofs.Records.{says}
 use Rattle.premise.specs.declared.File.{File}
 use Rattle.premise.specs.declared.FileOrNone.{FileOrNone}
@@ -23,11 +22,9 @@ use Rattle.premise.specs.WellKept.{FileKept}
 use Rattle.premise.specs.Promises.{Room, asStruct, TidyOrNone, Answered}
 use Rattle.premise.proofs.Few.{step-few}
 use Rattle.book.specs.Book.{filesOf}
-use Rattle.book.specs.Calls.{Result}
 use Rattle.book.proofs.Kept.{count-is, book-kept-means}
 use Rattle.book.proofs.Emits.{writes-emits}
-use Rattle.book.proofs.OnHeld.{call-on-held}
-use Rattle.book_held.specs.Held.{HeldReady, heldGiven, HeldGives, BookReady, HeldInPlace}
+use Rattle.book_held.specs.Held.{HeldReady, heldGiven, HeldGives, BookReady}
 use Rattle.book_held.proofs.Stays.{file-stays}
 
 -- a file that is left, as the struct has it
@@ -59,27 +56,13 @@ module _ (calendar : List ℕ) (today : ℕ) (file : File) (r : Record) (buffer 
       }
 
 pub book-ready : BookReady
-book-ready b bytes buffer r at past well e h room =
+book-ready b bytes buffer r at past well room h =
     let k = book-kept-means b .0 well in
-    let inside : at < length (filesOf b) = omega (arith, h .within, count-is b k) in
+    let inside : at < length (filesOf b) = omega (arith, h .held .within, count-is b k) in
     record {
-      kept = subst FileKept (getD-take (b .count) (b .files) at past (h .within)) (each-at FileKept (filesOf b) at past inside (k .files));
-      formed = says bytes r e .formed;
-      from = h .from;
-      upto = h .upto;
+      kept = subst FileKept (getD-take (b .count) (b .files) at past (h .held .within)) (each-at FileKept (filesOf b) at past inside (k .files));
+      formed = says bytes r (h .says) .formed;
+      from = h .held .from;
+      upto = h .held .upto;
       room = room;
-    }
-
-pub held-in-place : HeldInPlace
-held-in-place calendar b bytes before after r at past p well e h room gives =
-    let stores = call-on-held calendar b bytes before r at past (p .file) well room e h (sym (gives .file)) in
-    let same = stores .result in
-    record {
-      promised = record {
-        answer = gives .answer ∙ sym (ap (λ (x : Result). x .answer) same);
-        book = sym (ap (λ (x : Result). x .book) same);
-        notices = subst⁻¹ (λ (x : Result). Emits before after (p .sent) (x .notices)) same (gives .notices);
-      };
-      kept = stores .book;
-      numbers = stores .numbers;
     }

@@ -1,4 +1,3 @@
-pub mod Numbers
-pub mod LookUp
 pub mod Stays
 pub mod Held
+pub mod InPlace

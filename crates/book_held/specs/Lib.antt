@@ -1,2 +1,2 @@
-pub mod LookUp
 pub mod Held
+pub mod InPlace

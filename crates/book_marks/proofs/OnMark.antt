@@ -23,11 +23,12 @@ use Rattle.book_files.proofs.Tidy.{tidy-kept}
 use Rattle.book_replies.specs.Parts.{Gives, onDayMark}
 use Rattle.book_replies.proofs.Refusals.{gives-refusal}
 
-module _ (calendar : List ℕ) (b : Book) (r : Record) (buffer : List ℕ) where
-  pub mark-asks : BookKept b → noticeBytes ≤ length buffer → TidyBook b × Each Tidy (filesOf b) × Room 0 (markedNotices calendar (r .day) (filesOf b)) buffer
-  mark-asks k room =
-      (tidy-kept b k, each-map FileKept Tidy (λ f u. u .tidy) (filesOf b) (k .files), omega (arith, mark-all-few calendar b r k, room))
+pub mark-asks : (calendar : List ℕ) (b : Book) (day : ℕ) (buffer : List ℕ) → BookKept b → noticeBytes ≤ length buffer
+    → TidyBook b × Each Tidy (filesOf b) × Room 0 (markedNotices calendar day (filesOf b)) buffer
+mark-asks calendar b day buffer k room =
+    (tidy-kept b k, each-map FileKept Tidy (λ f u. u .tidy) (filesOf b) (k .files), omega (arith, mark-all-few calendar b day k, room))
 
+module _ (calendar : List ℕ) (b : Book) (r : Record) (buffer : List ℕ) where
   pub mark-refused : (p : Reply) → (r .day ≡ b .today + 1 → ⊥) → p ≡ record { answer = NotNextDay; sent = 0; book = b } → Gives (onDayMark calendar b r) p buffer buffer
   mark-refused p n e = rw (ne-eqb (r .day) (b .today + 1) n) (gives-refusal NotNextDay b p buffer e)
 

@@ -1,4 +1,5 @@
--- What the book's own table rests on: which answer has the number 0, and row 5 on a create of a premise that is held. Assumes nothing.
+-- What the book's own table rests on: which answer has the number 0, row 4 on a record of a premise that is not held, and row 5 on a create
+-- of one that is. Assumes nothing.
 use mathlib.Core.Path.{_≡_, refl}
 use native.Mathlib.Omega.{arith}
 use borrow.Author.Tests.{eqb-true}
@@ -6,7 +7,7 @@ use Rattle.records.specs.Records.{kindCreate}
 use Rattle.premise.specs.declared.Answer.{Answer}
 use Rattle.premise.specs.declared.Answer.the-variants.{Accepted, ShortBuffer, NotWellKept, MalformedRecord, NoSuchPremise, PremiseHeld, BookFull, OrderOpen, ReferenceHeld, DayOutOfRange, NoSwitchDate, NotFirstIn, StackFull, NoSuchOrder, StatusNotTaken, NotNextDay}
 use Rattle.premise.specs.Refusals.{number, premiseRows}
-use Rattle.premise.specs.Laws.{AcceptedIsZero, CreateHeld}
+use Rattle.premise.specs.Laws.{AcceptedIsZero, NeedsFile, CreateHeld}
 
 zero-accepted : (answer : Answer) → number answer ≡ 0 → answer ≡ Accepted
 unfolding number
@@ -30,6 +31,10 @@ zero-accepted NotNextDay e = absurd (omega arith)
 pub accepted-is-zero : AcceptedIsZero
 unfolding number
 accepted-is-zero answer = (zero-accepted answer, λ e. rw e)
+
+pub needs-file : NeedsFile
+unfolding premiseRows
+needs-file r more e = rw e
 
 pub create-held : CreateHeld
 unfolding premiseRows

@@ -13,11 +13,11 @@ use Rattle.records.specs.declared.Notice.{Notice}
 use Rattle.records.specs.Records.{kindCreate, kindRetire, kindDayMark, wellFormed}
 use Rattle.premise.specs.declared.File.{File}
 use Rattle.premise.specs.declared.Answer.{Answer}
-use Rattle.premise.specs.declared.Answer.the-variants.{Accepted, PremiseHeld, NotNextDay}
+use Rattle.premise.specs.declared.Answer.the-variants.{Accepted, NoSuchPremise, PremiseHeld, NotNextDay}
 use Rattle.premise.specs.Orders.{mostOrders, blankFile, held}
 use Rattle.premise.specs.Steps.{is}
 use Rattle.premise.specs.WellKept.{fileKept, fileBlank, FileKept}
-use Rattle.premise.specs.Refusals.{Row, number, premiseRows, rows, firstRow, isHeld}
+use Rattle.premise.specs.Refusals.{Row, number, needsPremise, premiseRows, rows, firstRow, isHeld}
 use Rattle.premise.specs.OnePremise.{State, Given, accepted, refused, leaving, marked, step}
 
 -- a property of the file, where there is one
@@ -67,6 +67,10 @@ AcceptedIsZero = (answer : Answer) → (number answer ≡ 0) ↔ (answer ≡ Acc
 -- rows 4 and 5 do not hold for a create of a premise without a file
 abbrev pub CreatePasses : Type 0
 CreatePasses = (r : Record) (more : List Row) → is kindCreate r ≡ true → firstRow (premiseRows none r ++ more) ≡ firstRow more
+
+-- for a record of kinds 2 to 9 of a premise without a file row 4 is the first that holds, whatever rows come after it
+abbrev pub NeedsFile : Type 0
+NeedsFile = (r : Record) (more : List Row) → needsPremise r ≡ true → firstRow (premiseRows none r ++ more) ≡ NoSuchPremise
 
 -- for a create of a premise with a file row 5 is the first that holds, whatever rows come after it
 abbrev pub CreateHeld : Type 0

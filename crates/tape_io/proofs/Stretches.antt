@@ -6,12 +6,12 @@ use mathlib.Core.Bool.{false}
 use native.Mathlib.Omega.{arith}
 use lib.ListN.{length, take, drop, length-append, length-take, length-drop}
 use Rattle.tape_reader.specs.Counts.{mostRecords}
-use Rattle.tape_player.specs.declared.Playing.{Playing}
-use Rattle.tape_player.specs.declared.Stretch.{Stretch}
-use Rattle.tape_player.specs.Output.{starting, tapeMost}
-use Rattle.tape_player.specs.Stretches.{stretch, left, Ready, Roomy, Plays}
-use Rattle.tape_player.proofs.Calls.{start-ready}
-use Rattle.tape_player.proofs.Stretches.{stretch-goes-on, stretch-moves}
+use Rattle.tape_output.specs.declared.Playing.{Playing}
+use Rattle.tape_output.specs.declared.Stretch.{Stretch}
+use Rattle.tape_output.specs.Output.{starting, tapeMost}
+use Rattle.tape_output.specs.Stretches.{stretch, left, Ready, Roomy, Plays}
+use Rattle.tape_output.proofs.Calls.{start-ready}
+use Rattle.tape_output.proofs.Stretches.{stretch-goes-on, stretch-moves}
 
 -- a tape between two stretches, with the buffers it was lent
 pub record Between (tape notices₀ out₀ : List ℕ) (notices out : List ℕ) (p : Playing) : Type 0 where

@@ -1,8 +1,8 @@
 // A tape played from its bytes, and its text written over C's write. The work stands in `tape_player`, which is handed bytes.
 ghost use Prim.Native.Nat.{_≤_};
 ghost use lib.ListN.{length};
-ghost use Rattle.tape_player.specs.Output.{tapeMost};
-ghost use Rattle.tape_player.specs.Stretches.{Roomy};
+ghost use Rattle.tape_output.specs.Output.{tapeMost};
+ghost use Rattle.tape_output.specs.Stretches.{Roomy};
 
 // How many bytes of a calendar and of a tape are read.
 pub const CALENDAR_BYTES: usize = 4_096;
@@ -17,7 +17,7 @@ pub const TEXT_BYTES: usize = 131_072;
 fn play_in(calendar: &[u8], tape: &[u8], notices: &mut [u8], out: &mut [u8]) -> bool
     requires { ⌜ (length (now tape) ≤ tapeMost) × Roomy (now notices) (now out) ⌝ }
 {
-    let mut p = tape_player::start();
+    let mut p = tape_output::start();
     loop {
         let s = tape_player::play_on(calendar, p, tape, notices, out);
         let stop = s.stop;

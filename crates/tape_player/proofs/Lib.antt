@@ -1,11 +1,4 @@
-pub mod Calls
-pub mod Lines
-pub mod Putting
-pub mod Listed
-pub mod Filed
-pub mod Telling
 pub mod Records
-pub mod Left
-pub mod Stretches
 pub mod Stretching
+pub mod Ways
 pub mod Turns

@@ -17,10 +17,10 @@ use Rattle.tape_text.specs.Lengths.{mostNotices}
 use Rattle.tape_text.proofs.Puts.{puts-as}
 use Rattle.tape_reader.specs.declared.Reader.{Reader}
 use Rattle.tape_reader.specs.Counts.{counted}
-use Rattle.tape_player.specs.declared.Playing.{Playing}
-use Rattle.tape_player.specs.Output.{called, playedOn, rowLines, noticeRows, recordText}
-use Rattle.tape_player.specs.Stretches.{Ready, Shows}
-use Rattle.tape_player.proofs.Calls.{called-lent, called-few, played-place}
+use Rattle.tape_output.specs.declared.Playing.{Playing}
+use Rattle.tape_output.specs.Output.{called, playedOn, rowLines, noticeRows, recordText}
+use Rattle.tape_output.specs.Stretches.{Ready}
+use Rattle.tape_output.proofs.Calls.{called-lent, called-few, played-place}
 
 encoded : (xs : List Notice) → map encode xs ≡ noticeRows xs
 encoded [] = refl
@@ -51,11 +51,16 @@ answered calendar p bytes lent reply after ready room promised =
       held = omega (arith, emits .count, emits-length emits (omega arith));
     }
 
--- the reader that counted it, and its text
+-- the tape after it, and its text behind what stood in the buffer
+pub record Shows (calendar : List ℕ) (p : Playing) (bytes : List ℕ) (start : ℕ) (q : Playing) (stop : ℕ) (before after : List ℕ) : Type 0 where
+  pub playing : q ≡ playedOn calendar p bytes
+  pub text : Puts start before after stop (recordText calendar p bytes)
+
+-- the reader that counted it, and its lines
 pub shown : {calendar : List ℕ} {p : Playing} {bytes : List ℕ} {reply : Reply} {after : List ℕ} → Answered calendar p bytes reply after
     → {reader : Reader} {start stop : ℕ} {out last : List ℕ} → reader ≡ counted (p .reader) (number (reply .answer))
     → Puts start out last stop (recordLine (reader .place) (number (reply .answer)) (reply .sent) ++ rowLines (rows (reply .sent) after))
-    → Shows (playedOn calendar p bytes) (recordText calendar p bytes) start (record { playing = record { reader = reader; book = reply .book }; stop = stop }) out last
+    → Shows calendar p bytes start (record { reader = reader; book = reply .book }) stop out last
 unfolding recordText
 shown {calendar} {p} {bytes} {reply} {after} a {reader} advanced put =
     let is = ap number (a .answer) in

@@ -1,23 +1,28 @@
 -- The loop of a stretch: some records are played and their text is put; the stretch of those that are left is the rest of the whole.
 -- Assumes nothing.
 use Prim.Native.Nat.{ℕ, _+_, _*_, _-_, _≤_, _<_, min}
-use mathlib.Core.Path.{_≡_, refl, sym, ap, ap₂, _∙_}
-use mathlib.Core.List.{List, [], _∷_, _++_, append-assoc, append-nil}
-use mathlib.Core.Bool.{true, false}
+use mathlib.Core.Path.{_≡_, refl, sym, ap, ap₂, subst, _∙_}
+use mathlib.Core.Logic.{_⊎_, ⊎-elim}
+use mathlib.Core.List.{List, [], _∷_, _++_, append-assoc}
+use mathlib.Core.Bool.{Bool, true, false, cond}
 use native.Mathlib.Omega.{arith}
+use lib.Dec.{leb}
 use lib.ListN.{length, take, drop, length-append}
+use borrow.Author.Tests.{leb-true, leb-false, le-leb, lt-leb}
 use Rattle.records.specs.Layout.{recordLength}
 use Rattle.tape_text.specs.Text.{Puts}
 use Rattle.tape_text.proofs.Puts.{puts-none, puts-as, puts-length, puts-then}
 use Rattle.tape_reader.specs.Counts.{mostRecords}
-use Rattle.tape_player.specs.declared.Playing.{Playing}
-use Rattle.tape_player.specs.declared.Shown.{Shown}
-use Rattle.tape_player.specs.Output.{playedOn, recordText, ending, tapeMost}
-use Rattle.tape_player.specs.Stretches.{recordTextMost, endingMost, Stretched, nothingMore, behind, stretch, left, Ready, Shows, Plays}
-use Rattle.tape_player.proofs.Calls.{played-place, played-ready}
-use Rattle.tape_player.proofs.Lines.{record-text-most, ending-most}
-use Rattle.tape_player.proofs.Left.{left-none, left-next, lent-record}
-use Rattle.tape_player.proofs.Stretches.{next, stretch-next, stretch-full, stretch-ends, stretch-short}
+use Rattle.tape_output.specs.declared.Playing.{Playing}
+use Rattle.tape_output.specs.declared.Stretch.{Stretch}
+use Rattle.tape_output.specs.Output.{playedOn, recordText, ending, tapeMost}
+use Rattle.tape_output.specs.Stretches.{recordTextMost, endingMost, Stretched, nothingMore, ended, behind, stretch, left, Ready, Plays}
+use Rattle.tape_output.proofs.Calls.{played-place, played-ready}
+use Rattle.tape_output.proofs.Lines.{record-text-most, ending-most}
+use Rattle.tape_output.proofs.Left.{left-none, left-next, lent-record}
+use Rattle.tape_output.proofs.Stretches.{next, stretch-next, stretch-full, stretch-ends, stretch-short}
+use Rattle.tape_ending.specs.Closing.{Closes}
+use Rattle.tape_player.proofs.Records.{Shows}
 
 -- text behind text
 behind-behind : (xs ys : List ℕ) (s : Stretched) → behind xs (behind ys s) ≡ behind (xs ++ ys) s
@@ -54,14 +59,16 @@ module _ {calendar tape : List ℕ} {p : Playing} {b c : List ℕ} {q : Playing}
   pub stretching-room : (most : ℕ) → most ≤ length c - stop → stop + most ≤ length c
   stretching-room most h = omega (arith, stretching-within)
 
-  -- what a stretch gives that stops here
-  stops : (r : List (List ℕ)) → stretch calendar (length b - stop) q (left q tape) ≡ nothingMore q r → Plays (stretch calendar (length b) p (left p tape)) (record { playing = q; stop = stop; done = false }) b c
-  stops r e =
+  -- what a stretch gives that closes here, by the stretch of the records that are left
+  closed : (rest : Stretched) → stretch calendar (length b - stop) q (left q tape) ≡ rest → stop + length (rest .text) ≤ length c → {r : Stretch} {d : List ℕ}
+      → r .playing ≡ rest .playing → r .done ≡ rest .done → Puts stop c d (r .stop) (rest .text) → Plays (stretch calendar (length b) p (left p tape)) r b d
+  closed rest e room same done put =
       let whole = s .rest ∙ ap (behind (s .text)) e in
+      let many = length-append (s .text) (rest .text) in
       record {
-        playing = sym (ap (λ (t : Stretched). t .playing) whole);
-        text = puts-as (sym (ap (λ (t : Stretched). t .text) whole ∙ append-nil (s .text))) (s .put);
-        done = sym (ap (λ (t : Stretched). t .done) whole);
+        playing = same ∙ sym (ap (λ (t : Stretched). t .playing) whole);
+        text = puts-as (sym (ap (λ (t : Stretched). t .text) whole)) (puts-then (s .put) put (omega (arith, s .put .end, stretching-length, room, many)));
+        done = done ∙ sym (ap (λ (t : Stretched). t .done) whole);
       }
 
   -- ---- a record is left
@@ -75,26 +82,27 @@ module _ {calendar tape : List ℕ} {p : Playing} {b c : List ℕ} {q : Playing}
         ∙ ap (λ (l : List ℕ). l ∷ left (playedOn calendar q bytes) tape) (ap (λ (n : ℕ). take recordLength (drop n tape)) (sym (s .place)) ∙ sym e)
 
     -- it finds no room
-    pub stretching-full : length c - stop < recordTextMost → Plays (stretch calendar (length b) p (left p tape)) (record { playing = q; stop = stop; done = false }) b c
-    stretching-full full =
+    stretching-full : length c - stop < recordTextMost → {r : Stretch} {d : List ℕ} → Closes false q stop r c d → Plays (stretch calendar (length b) p (left p tape)) r b d
+    stretching-full full closes =
         let bytes = take recordLength (drop from tape) in
         let records = left (playedOn calendar q bytes) tape in
-        let e = one bytes refl in
-        stops (bytes ∷ records) (ap (stretch calendar (length b - stop) q) e ∙ stretch-full calendar (length b - stop) q bytes records (omega (arith, stretching-length)))
+        closed (nothingMore q (bytes ∷ records))
+        (ap (stretch calendar (length b - stop) q) (one bytes refl) ∙ stretch-full calendar (length b - stop) q bytes records (omega (arith, stretching-length)))
+        (omega (arith, stretching-within)) (closes .playing) (closes .done) (closes .text)
 
     -- it finds room, and is played
-    pub stretching-more : (to : ℕ) → to ≡ min (from + recordLength) (length tape) → recordTextMost ≤ length c - stop → {r : Shown} {d : List ℕ}
-        → Shows (playedOn calendar q (take (to - from) (drop from tape))) (recordText calendar q (take (to - from) (drop from tape))) stop r c d
-        → Stretching calendar tape p b d (r .playing) (r .stop) (from + recordLength)
-    stretching-more to e space {r} {d} shows =
+    pub stretching-more : (to : ℕ) → to ≡ min (from + recordLength) (length tape) → recordTextMost ≤ length c - stop → {r : Playing} {stopped : ℕ} {d : List ℕ}
+        → Shows calendar q (take (to - from) (drop from tape)) stop r stopped c d
+        → Stretching calendar tape p b d r stopped (from + recordLength)
+    stretching-more to e space {r} {stopped} shows =
         let bytes = take (to - from) (drop from tape) in
         let text = recordText calendar q bytes in
         let on = playedOn calendar q bytes in
-        let same : r .playing ≡ on = shows .playing in
-        let place : r .playing .reader .place ≡ q .reader .place + 1 = ap (λ (x : Playing). x .reader .place) same ∙ played-place calendar q bytes in
+        let same : r ≡ on = shows .playing in
+        let place : r .reader .place ≡ q .reader .place + 1 = ap (λ (x : Playing). x .reader .place) same ∙ played-place calendar q bytes in
         let most = record-text-most calendar q bytes stretching-left in
         let many = length-append (s .text) text in
-        let more : length b - stop - length text ≡ length b - r .stop = omega (arith, shows .text .end) in
+        let more : length b - stop - length text ≡ length b - stopped = omega (arith, shows .text .end) in
         let next-one =
         ap (stretch calendar (length b - stop) q) (one bytes (lent-record tape from to e))
         ∙ stretch-next calendar (length b - stop) q bytes (left on tape) (omega (arith, stretching-length)) in
@@ -115,19 +123,29 @@ module _ {calendar tape : List ℕ} {p : Playing} {b c : List ℕ} {q : Playing}
     none : left q tape ≡ []
     none = left-none q tape (omega (arith, s .place))
 
-    -- the end finds no room
-    pub stretching-short : length c - stop < endingMost → Plays (stretch calendar (length b) p (left p tape)) (record { playing = q; stop = stop; done = false }) b c
-    stretching-short short = stops [] (ap (stretch calendar (length b - stop) q) none ∙ stretch-short calendar (length b - stop) q (omega (arith, stretching-length)))
+    -- the end finds room and is put, or not
+    stretching-ends : {r : Stretch} {d : List ℕ} → Closes true q stop r c d → Plays (stretch calendar (length b) p (left p tape)) r b d
+    stretching-ends {r} {d} closes = go (leb endingMost (length c - stop)) refl (closes .done) (closes .text)
+      where
+        go : (put : Bool) → leb endingMost (length c - stop) ≡ put → r .done ≡ put → Puts stop c d (r .stop) (cond put (ending q) [])
+            → Plays (stretch calendar (length b) p (left p tape)) r b d
+        go true t done put =
+            let space = leb-true endingMost (length c - stop) t in
+            let most = ending-most q (s .ready) in
+            closed (ended q)
+            (ap (stretch calendar (length b - stop) q) none ∙ stretch-ends calendar (length b - stop) q (omega (arith, stretching-length)))
+            (omega (arith, stretching-within)) (closes .playing) done put
+        go false t done put =
+            let short = leb-false endingMost (length c - stop) t in
+            closed (nothingMore q [])
+            (ap (stretch calendar (length b - stop) q) none ∙ stretch-short calendar (length b - stop) q (omega (arith, stretching-length)))
+            (omega (arith, stretching-within)) (closes .playing) done put
 
-    -- it finds room, and is put
-    pub stretching-ends : endingMost ≤ length c - stop → {d : List ℕ} {stopped : ℕ} → Puts stop c d stopped (ending q)
-        → Plays (stretch calendar (length b) p (left p tape)) (record { playing = q; stop = stopped; done = true }) b d
-    stretching-ends space put =
-        let whole = s .rest ∙ ap (behind (s .text)) (ap (stretch calendar (length b - stop) q) none ∙ stretch-ends calendar (length b - stop) q (omega (arith, stretching-length))) in
-        let most = ending-most q (s .ready) in
-        let many = length-append (s .text) (ending q) in
-        record {
-          playing = sym (ap (λ (t : Stretched). t .playing) whole);
-          text = puts-as (sym (ap (λ (t : Stretched). t .text) whole)) (puts-then (s .put) put (omega (arith, s .put .end, stretching-length)));
-          done = sym (ap (λ (t : Stretched). t .done) whole);
-        }
+  -- ---- the loop is left: no record is left, or the next finds no room
+  pub stretching-closes : length tape ≤ tapeMost → (length tape ≤ from) ⊎ ((from < length tape) × (length c - stop < recordTextMost))
+      → {r : Stretch} {d : List ℕ} → Closes (leb (length tape) from) q stop r c d → Plays (stretch calendar (length b) p (left p tape)) r b d
+  stretching-closes short came {r} {d} closes =
+      ⊎-elim
+      (λ h. stretching-ends h (subst (λ (all : Bool). Closes all q stop r c d) (le-leb (length tape) from h) closes))
+      (λ h. stretching-full short (h .0) (h .1) (subst (λ (all : Bool). Closes all q stop r c d) (lt-leb (length tape) from (h .0)) closes))
+      came

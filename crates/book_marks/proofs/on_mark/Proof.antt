@@ -22,7 +22,7 @@ mark-requires : tie.Need-mark-requires
 mark-requires c κs =
     let s = c .before .before .before .before .before .before in
     let a = s .args in
-    mark-asks (a .calendar .now) (a .b) (a .r) (a .buffer .now) (s .pre .0) (s .pre .1)
+    mark-asks (a .calendar .now) (a .b) (a .r .day) (a .buffer .now) (s .pre .0) (s .pre .1)
 
 same-length : tie.Need-same-length
 same-length c = search needs

@@ -1,15 +1,11 @@
+-- `tape_io::play_in` meets its contract. The loop's invariant: the tape can be played on, in buffers of the same lengths. The measure is
+-- the records left. Assumes nothing.
 use Prim.Native.Nat.{_-_}
 use borrow.Author.Needs.{needs}
-use native.Mathlib.Omega.{arith}
 use Rattle.tape_reader.specs.Counts.{mostRecords}
 use Rattle.tape_io.proofs.Stretches.{Between, between-first, text-stands, between-next, fewer-left}
 use Rattle.tape_io.proofs.play_in.Statement.{statement}
 use Rattle.tape_io.proofs.play_in.Tie as tie
-use Rattle.tape_io.proofs.play_in.Reads as reads
-use Rattle.tape_io.proofs.play_in.Lts as lts
-use Rattle.io.proofs.write_all.Reads as write-all-reads
-use Rattle.tape_player.proofs.play_on.Reads as play-on-reads
-use Rattle.tape_player.proofs.start.Reads as start-reads
 
 abbrev Inv-loop : tie.InvT-loop
 Inv-loop calendar tape notices₀ out₀ p₀ notices out p = Between tape notices₀ out₀ notices out p

@@ -1,17 +1,25 @@
--- `tape_player::play_on` meets its contract. The loop's invariant: the records before the one reached are played, their text is put, the
--- stretch of those that are left is the rest of the whole, and the numbers are those of the book's places. The measure is the bytes of
--- the tape that are left. Assumes nothing.
-use Prim.Native.Nat.{_-_, _<_}
-use mathlib.Core.Path.{sym, _∙_}
+-- `tape_player::play_on` meets its contract. The outer loop's invariant: the records before the one reached are played, their text is put,
+-- the stretch of those that are left is the rest of the whole, and the numbers are those of the book's places; its measure is the bytes of
+-- the tape that are left. The inner loop's: the files before the one reached are marked; its measure is the files left. Assumes nothing.
+use Prim.Native.Nat.{_-_, _≤_, _<_}
+use mathlib.Core.Logic.{inl, inr, ⊎-elim}
 use native.Mathlib.Omega.{arith}
-use lib.ListN.{length}
+use lib.ListN.{length, take, drop}
 use borrow.Author.Needs.{needs}
 use Rattle.book.specs.Book.{mostFiles}
-use Rattle.tape_player.specs.Stretches.{endingMost}
-use Rattle.tape_player.proofs.Stretching.{stretching-length, stretching-within, stretching-room, stretching-full, stretching-short, stretching-ends}
-use Rattle.tape_player.proofs.Turns.{of, Turn, turn-none, turn-places, turn-numbers, held-place, held-asks, held-stored, turn-tells, turn-more}
+use Rattle.book_marks.proofs.Marks.{Sofar, sofar-none}
+use Rattle.tape_player.proofs.Stretching.{stretching-length, stretching-within, stretching-closes}
+use Rattle.tape_player.proofs.Ways.{Made, made-as, each-place, look-asks, by-refusal, held-place, held-asks, by-file, by-marks, mark-tidy, mark-room, mark-more, mark-still}
+use Rattle.tape_player.proofs.Turns.{of, Turn, turn-none, standing, turn-tells, turn-more}
 use Rattle.tape_player.proofs.play_on.Statement.{statement}
 use Rattle.tape_player.proofs.play_on.Tie as tie
+
+abbrev Inv-loop2 : tie.InvT-loop2
+Inv-loop2 calendar tape notices₀ out b₀ reader numbers stop from to count answer sent₀ day business last place₀ notices b sent place =
+    (count ≤ mostFiles) × Sofar calendar day (b₀ .count) (b₀ .files) notices₀ place sent b notices
+
+abbrev μ-loop2 : tie.MeasureT-loop2
+μ-loop2 calendar tape notices₀ out b₀ reader numbers stop from to count answer sent₀ day business last place₀ notices b sent place = count - place
 
 abbrev Inv-loop : tie.InvT-loop
 Inv-loop calendar tape notices₀ out₀ b₀ reader₀ numbers₀ stop₀ from₀ notices out b reader numbers stop from =
@@ -20,208 +28,178 @@ Inv-loop calendar tape notices₀ out₀ b₀ reader₀ numbers₀ stop₀ from�
 abbrev μ-loop : tie.MeasureT-loop
 μ-loop calendar tape notices₀ out₀ b₀ reader₀ numbers₀ stop₀ from₀ notices out b reader numbers stop from = length tape - from
 
-mul-from : tie.Need-mul-from Inv-loop μ-loop
-mul-from c = let s = c .before .before .before .before .before .before .before .before in omega (arith, s .pre .0 .within)
-
-loop-holds : tie.Need-loop-holds Inv-loop μ-loop
+loop-holds : tie.Need-loop-holds Inv-loop2 μ-loop2 Inv-loop μ-loop
 loop-holds c =
     let p = c .before in
     let s = p .before .before .before .before .before .before .before in
     let a = s .args in
     turn-none (a .calendar .now) (a .tape .now) (a .p) (a .notices .now) (a .out .now) _ (s .pre) (p .premises .ensures)
 
-sub-if1 : tie.Need-sub-if1 Inv-loop μ-loop
-sub-if1 c = stretching-within (c .before .loop .inv .played)
-
-same-length : tie.Need-same-length Inv-loop μ-loop
-same-length c = c .before .before .loop .inv .same
-
-same-length-2 : tie.Need-same-length-2 Inv-loop μ-loop
-same-length-2 c = stretching-length (c .before .before .loop .inv .played)
-
-returns : tie.Need-returns Inv-loop μ-loop
-returns c =
-    let w = c .before in
-    let v = w .before .loop .inv in
-    stretching-full (v .played) (v .short) (w .loop-test .taken) (omega (arith, c .if1 .taken))
-
-add-least : tie.Need-add-least Inv-loop μ-loop
-add-least c = let w = c .before in omega (arith, w .before .loop .inv .short, w .loop-test .taken)
-
-add-from : tie.Need-add-from Inv-loop μ-loop
-add-from c = let w = c .before .before in omega (arith, w .before .loop .inv .short, w .loop-test .taken)
-
-sub-bytes : tie.Need-sub-bytes Inv-loop μ-loop
-sub-bytes c = omega (arith, c .least .ensures, c .before .before .loop-test .taken)
-
-part-bytes-start : tie.Need-part-bytes-start Inv-loop μ-loop
-part-bytes-start c = omega (arith, c .least .ensures, c .before .before .loop-test .taken)
-
-part-bytes-end : tie.Need-part-bytes-end Inv-loop μ-loop
-part-bytes-end c = omega (arith, c .least .ensures, c .before .before .loop-test .taken)
-
-slice-aggregate-look-up : tie.Need-slice-aggregate-look-up Inv-loop μ-loop
-slice-aggregate-look-up c = turn-places (c .before .before .before .before .before .loop .inv)
-
-look-up-requires : tie.Need-look-up-requires Inv-loop μ-loop
-look-up-requires c κs = turn-numbers (c .before .before .before .before .before .loop .inv)
-
 -- ---- the record's premise is held
-held-at : (t : tie.Then2 Inv-loop μ-loop) → t .before .look-up .result .at < mostFiles
-held-at t =
-    let k = t .before in
-    let m = k .before .before .before in
-    held-place (m .before .before .before .loop .inv) (m .least .result) (k .look-up .result) (k .look-up .ensures) (t .if2 .taken)
+held-at : (d : tie.After-look2 Inv-loop2 μ-loop2 Inv-loop μ-loop) → d .look2 .given .0 .0 < mostFiles
+held-at d =
+    let k = d .before .before in
+    held-place (standing (k .before .before .before .before .before .before .loop .inv)) _ (k .look-up .ensures) (d .look2 .given .1)
 
-mul-f : tie.Need-mul-f Inv-loop μ-loop
-mul-f c = omega (arith, held-at c)
-
-element-copy-out-f : tie.Need-element-copy-out-f Inv-loop μ-loop
-element-copy-out-f c = omega (arith, held-at c)
-
-held-call-requires : tie.Need-held-call-requires Inv-loop μ-loop
+held-call-requires : tie.Need-held-call-requires Inv-loop2 μ-loop2 Inv-loop μ-loop
 held-call-requires c κs =
-    let t = c .before .before .before in
-    let k = t .before in
-    let m = k .before .before .before in
-    held-asks (m .before .before .before .loop .inv) (m .least .result) (k .look-up .result) (k .look-up .ensures) (t .if2 .taken)
+    let d = c .before .before .before in
+    let k = d .before .before in
+    held-asks (standing (k .before .before .before .before .before .before .loop .inv)) _ (k .look-up .ensures) (d .look2 .given .1)
 
-mul-g : tie.Need-mul-g Inv-loop μ-loop
-mul-g c = omega (arith, held-at (c .before .before .before .before .before .before .before))
+-- ---- the record marks the next day
+loop2-holds : tie.Need-loop2-holds Inv-loop2 μ-loop2 Inv-loop μ-loop
+loop2-holds c =
+    let l = c .before .before .before .before .before .before .before .before .before .before .before in
+    let v = standing (l .loop .inv) in
+    (omega (arith, look-asks v .1, each-place v), sofar-none _ _ (l .loop .b) (l .loop .notices))
 
-element-set-from-g : tie.Need-element-set-from-g Inv-loop μ-loop
-element-set-from-g c = omega (arith, held-at (c .before .before .before .before .before .before .before))
+is-touched-requires : tie.Need-is-touched-requires Inv-loop2 μ-loop2 Inv-loop μ-loop
+is-touched-requires c κs =
+    let i = c .before in
+    let j = i .before in
+    let l = j .before .before .before .before .before .before .before .before .before .before .before .before in
+    mark-tidy (standing (l .loop .inv)) (j .loop2 .inv .1) (i .loop2-test .taken)
 
-show-requires : tie.Need-show-requires Inv-loop μ-loop
+mark-requires : tie.Need-mark-requires Inv-loop2 μ-loop2 Inv-loop μ-loop
+mark-requires c κs =
+    let i = c .before .before .before .before in
+    let j = i .before in
+    let n = j .before in
+    let v = standing (n .before .before .before .before .before .before .before .before .before .before .before .loop .inv) in
+    (mark-tidy v (j .loop2 .inv .1) (i .loop2-test .taken), mark-room v (j .loop2 .inv .1) (i .loop2-test .taken), n .last-in-window .ensures)
+
+-- the turn of the file at the place reached
+marks-within : (i : tie.In-loop2 Inv-loop2 μ-loop2 Inv-loop μ-loop) → i .before .loop2 .place < mostFiles
+marks-within i = omega (arith, i .before .loop2 .inv .0, i .loop2-test .taken)
+
+loop2-again : tie.Need-loop2-again Inv-loop2 μ-loop2 Inv-loop μ-loop
+loop2-again c =
+    let x = c .before .before .before in
+    let i = x .before .before .before .before .before in
+    let j = i .before in
+    let l = j .before .before .before .before .before .before .before .before .before .before .before .before in
+    (j .loop2 .inv .0, mark-more (standing (l .loop .inv)) (j .loop2 .inv .1) (i .loop2-test .taken) (x .mark .result) (x .mark .ensures))
+
+loop2-again-2 : tie.Need-loop2-again-2 Inv-loop2 μ-loop2 Inv-loop μ-loop
+loop2-again-2 c =
+    let u = c .before in
+    let i = u .before .before in
+    let j = i .before in
+    let n = j .before in
+    let l = n .before .before .before .before .before .before .before .before .before .before .before in (
+      j .loop2 .inv .0,
+      mark-still (standing (l .loop .inv)) (j .loop2 .inv .1) (i .loop2-test .taken) _ _ _ (n .before .is-business-day .ensures) (n .last-in-window .ensures)
+          (u .is-touched .ensures) (c .if2 .left),
+    )
+
+-- ---- its call is made, by one of the four ways
+abbrev MadeAt : tie.At-match-came Inv-loop2 μ-loop2 Inv-loop μ-loop → Type 0
+MadeAt c =
+    let m = c .before .before .before .before in
+    let l = m .before .before .before in
+    let a = l .before .before .before .before .before .before .before .before .before .args in
+    Made (a .calendar .now) (l .loop .b) (take (m .least .result - l .loop .from) (drop (l .loop .from) (a .tape .now))) (l .loop .notices)
+    (record { answer = c .match .answer; sent = c .match .sent; book = c .match .b; numbers = c .match .numbers; buffer = c .match .notices })
+
+made : (c : tie.At-match-came Inv-loop2 μ-loop2 Inv-loop μ-loop) → MadeAt c
+made c =
+    let k = c .before in
+    let v = standing (k .before .before .before .before .before .before .loop .inv) in
+    ⊎-elim
+    (λ x. made-as (λ i. record { answer = x .6 i; sent = x .7 i; book = x .4 i; numbers = x .5 i; buffer = x .3 i })
+    (by-refusal v _ (k .look-up .ensures) (x .1 .given .1)))
+    (⊎-elim
+    (λ x. made-as (λ i. record { answer = x .12 i; sent = x .13 i; book = x .10 i; numbers = x .11 i; buffer = x .9 i })
+    (by-file v _ (k .look-up .ensures) (x .1 .given .1) (x .5 .result) (x .5 .ensures)))
+    (⊎-elim
+    (λ x. made-as (λ i. record { answer = x .10 i; sent = x .11 i; book = x .8 i; numbers = x .9 i; buffer = x .7 i })
+    (by-marks v _ (k .look-up .ensures) (x .1 .given .1) (x .5 .inv .1) (x .6 .left)))
+    (λ x. made-as (λ i. record { answer = x .11 i; sent = x .12 i; book = x .9 i; numbers = x .10 i; buffer = x .8 i })
+    (record { promised = x .3 .ensures; own = x .7 .ensures }))))
+    (c .match .came)
+
+show-requires : tie.Need-show-requires Inv-loop2 μ-loop2 Inv-loop μ-loop
 show-requires c κs =
-    let h = c .before .before .before .before .before in
-    let t = h .before .before .before .before in
-    let k = t .before in
-    let m = k .before .before .before in
+    let x = c .before .before in
+    let m = x .before .before .before .before in
     let e = m .before in
     let w = e .before in
-    let v = w .before .loop .inv in
-    let stored = held-stored v (m .least .result) (k .look-up .result) (k .look-up .ensures) (t .if2 .taken) (h .held-call .result) (h .held-call .ensures) in
-    turn-tells v (w .loop-test .taken) (e .if1 .left) (m .least .result) (stored .promised)
+    turn-tells (w .before .loop .inv) (w .loop-test .taken) (e .if1 .left) (m .least .result) (made x)
 
-loop-less : tie.Need-loop-less Inv-loop μ-loop
-loop-less c =
-    let m = c .before .before .before .before .before .before .before .before .before .before .before .before .before .before .before .before .before in
-    omega (arith, m .before .before .loop-test .taken)
-
-loop-again : tie.Need-loop-again Inv-loop μ-loop
+loop-again : tie.Need-loop-again Inv-loop2 μ-loop2 Inv-loop μ-loop
 loop-again c =
-    let r = c .before .before .before in
-    let h = r .before .before .before .before .before .before in
-    let t = h .before .before .before .before in
-    let k = t .before in
-    let m = k .before .before .before in
+    let z = c .before .before .before in
+    let x = z .before .before .before in
+    let m = x .before .before .before .before in
     let e = m .before in
     let w = e .before in
-    let v = w .before .loop .inv in
-    let stored = held-stored v (m .least .result) (k .look-up .result) (k .look-up .ensures) (t .if2 .taken) (h .held-call .result) (h .held-call .ensures) in
-    turn-more v (w .loop-test .taken) (e .if1 .left) (m .least .result) (stored .promised) (m .least .ensures) (r .show .result) (r .show .ensures) (v .own ∙ sym (stored .numbers))
+    turn-more (w .before .loop .inv) (w .loop-test .taken) (e .if1 .left) (m .least .result) (made x) (m .least .ensures) (z .show .result) (z .show .ensures)
 
--- ---- any other record
-kept-call-requires : tie.Need-kept-call-requires Inv-loop μ-loop
-kept-call-requires c κs = c .before .before .before .before .before .before .before .before .loop .inv .played .ready .kept
+-- where the record stands that was played
+played-at : (c : tie.After-reader2 Inv-loop2 μ-loop2 Inv-loop μ-loop) → tie.In-loop Inv-loop2 μ-loop2 Inv-loop μ-loop
+played-at c = c .before .before .before .before .before .before .before .before .before .before .before .before
 
-show-requires-2 : tie.Need-show-requires-2 Inv-loop μ-loop
-show-requires-2 c κs =
-    let k = c .before .before .before .before in
-    let m = k .before .before .before .before .before .before in
-    let e = m .before in
-    let w = e .before in
-    turn-tells (w .before .loop .inv) (w .loop-test .taken) (e .if1 .left) (m .least .result) (k .kept-call .ensures)
+-- ---- none is left, or the next finds no room
+close-requires : tie.Need-close-requires Inv-loop2 μ-loop2 Inv-loop μ-loop
+close-requires c κs = let v = c .before .before .loop .inv .played in (v .ready, stretching-within v)
 
-loop-less-2 : tie.Need-loop-less-2 Inv-loop μ-loop
-loop-less-2 c =
-    let m = c .before .before .before .before .before .before .before .before .before .before .before .before .before .before .before .before in
-    omega (arith, m .before .before .loop-test .taken)
-
-loop-again-2 : tie.Need-loop-again-2 Inv-loop μ-loop
-loop-again-2 c =
-    let r = c .before .before .before .before .before in
-    let k = r .before .before .before .before .before in
-    let m = k .before .before .before .before .before .before in
-    let e = m .before in
-    let w = e .before in
-    turn-more (w .before .loop .inv) (w .loop-test .taken) (e .if1 .left) (m .least .result) (k .kept-call .ensures) (m .least .ensures) (r .show2 .result) (r .show2 .ensures) (c .premises2 .ensures)
-
--- ---- none is left
-sub-if3 : tie.Need-sub-if3 Inv-loop μ-loop
-sub-if3 c = stretching-within (c .before .loop .inv .played)
-
-same-length-3 : tie.Need-same-length-3 Inv-loop μ-loop
-same-length-3 c = c .before .before .loop .inv .same
-
-same-length-4 : tie.Need-same-length-4 Inv-loop μ-loop
-same-length-4 c = stretching-length (c .before .before .loop .inv .played)
-
-returns-2 : tie.Need-returns-2 Inv-loop μ-loop
-returns-2 c =
-    let w = c .before in
-    stretching-short (w .before .loop .inv .played) (w .loop-test .left) (omega (arith, c .if3 .taken))
-
-put-ending-requires : tie.Need-put-ending-requires Inv-loop μ-loop
-put-ending-requires c κs =
-    let v = c .before .before .before .loop .inv .played in
-    (v .ready, stretching-room v endingMost (c .before .if3 .left))
-
-same-length-5 : tie.Need-same-length-5 Inv-loop μ-loop
-same-length-5 c = c .before .before .before .before .before .before .loop .inv .same
-
-same-length-6 : tie.Need-same-length-6 Inv-loop μ-loop
-same-length-6 c =
-    let q = c .before .before in
-    omega (arith, stretching-length (q .before .before .before .before .loop .inv .played), q .put-ending .kept)
-
-returns-3 : tie.Need-returns-3 Inv-loop μ-loop
-returns-3 c =
-    let q = c .before .before in
-    let e = q .before .before in
-    let w = e .before in
-    stretching-ends (w .before .loop .inv .played) (w .loop-test .left) (e .if3 .left) (q .put-ending .ensures)
+returns : tie.Need-returns Inv-loop2 μ-loop2 Inv-loop μ-loop
+returns c =
+    let x = c .before .before in
+    let y = x .before .before in
+    let v = y .before .loop .inv in
+    stretching-closes (v .played) (v .short) (⊎-elim (λ q. inl (q .left)) (λ q. inr (q .0 .taken, q .1 .taken)) (y .loop-test .came)) (x .close .ensures)
 
 pub play-on-spec : {M : Type 1} → statement M
 play-on-spec =
     tie.close
     (tie.spec
+    Inv-loop2
+    μ-loop2
     Inv-loop
     μ-loop
     (λ c κs. search needs)
-    mul-from
+    (λ c. let s = c .before .before .before .before .before .before .before .before in omega (arith, s .pre .0 .within))
     loop-holds
-    sub-if1
-    same-length
-    same-length-2
-    returns
-    add-least
+    (λ c. stretching-within (c .before .loop .inv .played))
+    (λ c. omega (arith, c .before .before .loop .inv .short, c .before .loop-test .taken))
     (λ c κs. search needs)
-    add-from
-    sub-bytes
-    part-bytes-start
-    part-bytes-end
-    slice-aggregate-look-up
-    look-up-requires
-    mul-f
-    element-copy-out-f
+    (λ c. omega (arith, c .least .ensures, c .before .before .loop-test .taken))
+    (λ c. omega (arith, c .least .ensures, c .before .before .loop-test .taken))
+    (λ c. omega (arith, c .least .ensures, c .before .before .loop-test .taken))
+    (λ c. each-place (standing (c .before .before .before .before .before .loop .inv)))
+    (λ c κs. look-asks (standing (c .before .before .before .before .before .loop .inv)))
+    (λ c. search needs)
+    (λ c. search needs)
+    (λ c. omega (arith, held-at (c .before)))
+    (λ c. omega (arith, held-at (c .before)))
     held-call-requires
-    mul-g
-    element-set-from-g
-    show-requires
-    loop-less
-    loop-again
-    kept-call-requires
-    show-requires-2
+    (λ c. omega (arith, held-at (c .before .before .before .before .before .before .before)))
+    (λ c. omega (arith, held-at (c .before .before .before .before .before .before .before)))
+    (λ c. search needs)
     (λ c κs. search needs)
-    loop-less-2
-    loop-again-2
-    sub-if3
-    same-length-3
-    same-length-4
-    returns-2
-    put-ending-requires
-    same-length-5
-    same-length-6
-    returns-3)
+    (λ c κs. search needs)
+    loop2-holds
+    (λ c. omega (arith, marks-within c))
+    (λ c. omega (arith, marks-within c))
+    (λ c. omega (arith, marks-within (c .before)))
+    is-touched-requires
+    mark-requires
+    (λ c. omega (arith, marks-within (c .before .before .before .before .before .before .before .before)))
+    (λ c. omega (arith, marks-within (c .before .before .before .before .before .before .before .before)))
+    (λ c. omega (arith, c .before .before .before .before .before .before .before .before .loop2-test .taken))
+    loop2-again
+    (λ c. omega (arith, c .before .before .before .loop2-test .taken))
+    loop2-again-2
+    (λ c. search needs)
+    (λ c κs. c .before .before .before .before .before .before .before .before .before .loop .inv .played .ready .kept)
+    (λ c κs. search needs)
+    show-requires
+    (λ c. omega (arith, played-at c .before .loop .inv .short, played-at c .loop-test .taken))
+    (λ c. omega (arith, played-at c .loop-test .taken))
+    loop-again
+    close-requires
+    (λ c. c .before .before .before .before .before .loop .inv .same)
+    (λ c. omega (arith, stretching-length (c .before .before .before .before .before .loop .inv .played), c .before .before .close .kept))
+    returns)

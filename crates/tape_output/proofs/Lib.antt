@@ -1,0 +1,5 @@
+pub mod Calls
+pub mod Lines
+pub mod Left
+pub mod Stretches
+pub mod Putting

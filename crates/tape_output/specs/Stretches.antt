@@ -1,0 +1,103 @@
+-- The output in stretches. A stretch goes into a buffer of a fixed length: as many records as surely find room for their text, and after
+-- the last record the end, if it finds room.
+use Prim.Native.Nat.{ℕ, zero, suc, _+_, _*_, _-_, _≤_, _<_}
+use mathlib.Core.Path.{_≡_}
+use mathlib.Core.List.{List, [], _∷_, _++_}
+use mathlib.Core.Bool.{Bool, true, false, cond}
+use lib.Dec.{leb}
+use lib.ListN.{length, take, drop}
+use Rattle.records.specs.Layout.{recordLength}
+use Rattle.book.specs.Book.{mostFiles, bookKept}
+use Rattle.book.specs.Calls.{noticeBytes}
+use Rattle.tape_text.specs.Text.{Puts}
+use Rattle.tape_text.specs.Lengths.{mostNotices, recordLineMost, noticeLineMost, fileLineMost, totalLineMost}
+use Rattle.tape_reader.specs.Counts.{mostRecords, Sound}
+use Rattle.tape_output.specs.declared.Playing.{Playing}
+use Rattle.tape_output.specs.declared.Stretch.{Stretch}
+use Rattle.tape_output.specs.Output.{recordsOf, playedOn, recordText, ending, starting, output, calendarMost, tapeMost}
+
+-- the most that a record's text takes, and the end's
+abbrev pub recordTextMost : ℕ
+recordTextMost = recordLineMost + noticeLineMost * mostNotices
+
+abbrev pub endingMost : ℕ
+endingMost = fileLineMost * mostFiles + totalLineMost
+
+-- what a stretch gives: its text, the tape after it, the records that are left, and whether the end is among its text
+pub record Stretched : Type 0 where
+  pub text : List ℕ
+  pub playing : Playing
+  pub left : List (List ℕ)
+  pub done : Bool
+
+abbrev pub nothingMore : Playing → List (List ℕ) → Stretched
+nothingMore p left = record { text = []; playing = p; left = left; done = false }
+
+abbrev pub ended : Playing → Stretched
+ended p = record { text = ending p; playing = p; left = []; done = true }
+
+abbrev pub behind : List ℕ → Stretched → Stretched
+behind text s = record { text = text ++ s .text; playing = s .playing; left = s .left; done = s .done }
+
+-- as many records as surely find room, then the end
+abbrev pub stretch : List ℕ → ℕ → Playing → List (List ℕ) → Stretched
+stretch calendar room p [] = cond (leb endingMost room) (ended p) (nothingMore p [])
+stretch calendar room p (bytes ∷ rest) =
+    cond (leb recordTextMost room)
+    (behind (recordText calendar p bytes) (stretch calendar (room - length (recordText calendar p bytes)) (playedOn calendar p bytes) rest))
+    (nothingMore p (bytes ∷ rest))
+
+-- the records of a tape that the reader has not played
+abbrev pub left : Playing → List ℕ → List (List ℕ)
+left p tape = recordsOf (mostRecords - p .reader .place) (drop (recordLength * p .reader .place) tape)
+
+-- ---- what is asked of a tape that is being played: a well-kept book, which a fresh one is and every call leaves, and a sound reader
+-- that has not gone past a tape's last record
+pub record Ready (p : Playing) : Type 0 where
+  pub kept : bookKept (p .book) ≡ true
+  pub sound : Sound (p .reader)
+  pub within : p .reader .place ≤ mostRecords
+
+-- .. and of the buffers: room for the notices of any call, and for the text of any record
+pub record Roomy (buffer out : List ℕ) : Type 0 where
+  pub notices : noticeBytes ≤ length buffer
+  pub text : recordTextMost ≤ length out
+
+-- ---- what is promised after a stretch: the tape, its text in the buffer, and whether it is the last
+pub record Plays (s : Stretched) (r : Stretch) (before after : List ℕ) : Type 0 where
+  pub playing : r .playing ≡ s .playing
+  pub text : Puts 0 before after (r .stop) (s .text)
+  pub done : r .done ≡ s .done
+
+-- ---- the stretches of a tape, one after another, up to the one with the end; proofs/Stretches.antt proves what follows
+abbrev pub pieces : ℕ → List ℕ → ℕ → Playing → List (List ℕ) → List (List ℕ)
+pieces zero calendar room p records = []
+pieces (suc most) calendar room p records =
+    stretch calendar room p records .text
+    ∷ cond (stretch calendar room p records .done) [] (pieces most calendar room (stretch calendar room p records .playing) (stretch calendar room p records .left))
+
+abbrev pub joined : List (List ℕ) → List ℕ
+joined [] = []
+joined (xs ∷ xss) = xs ++ joined xss
+
+-- What is handed to be written, piece by piece, is the whole output: every tape ends within one stretch more than it has records.
+abbrev pub PiecesAreOutput : Type 0
+PiecesAreOutput =
+    (calendar tape : List ℕ) (room : ℕ) → recordTextMost ≤ room
+    → joined (pieces (mostRecords + 1) (take calendarMost calendar) room starting (recordsOf mostRecords (take tapeMost tape))) ≡ output calendar tape
+
+-- A stretch leaves the records that its reader has not played, and a tape that can be played on.
+pub record GoesOn (tape : List ℕ) (s : Stretched) : Type 0 where
+  pub left : s .left ≡ left (s .playing) tape
+  pub ready : Ready (s .playing)
+
+abbrev pub StretchGoesOn : Type 0
+StretchGoesOn =
+    (calendar tape : List ℕ) (room : ℕ) (p : Playing) → length tape ≤ tapeMost → Ready p
+    → GoesOn tape (stretch calendar room p (left p tape))
+
+-- A stretch that is not the last plays a record at least, so that the program ends.
+abbrev pub StretchMoves : Type 0
+StretchMoves =
+    (calendar tape : List ℕ) (room : ℕ) (p : Playing) → recordTextMost ≤ room
+    → stretch calendar room p (left p tape) .done ≡ false → p .reader .place < stretch calendar room p (left p tape) .playing .reader .place

@@ -19,12 +19,12 @@ pub struct Stretch {
     pub done: bool,
 }
 
-// A tape before its first record: a fresh book at day 0.
+// A tape before its first record: a fresh book at day 0, which is an empty one.
 pub fn start() -> Playing
     ensures { λ p. ⌜ p ≡ starting ⌝ }
 {
     let reader = tape_reader::start();
-    let b = book_calls::fresh(0);
+    let b = book_files::empty(0);
     Playing {
         reader: reader,
         book: b,

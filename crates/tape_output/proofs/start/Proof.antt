@@ -4,7 +4,7 @@ use Rattle.tape_output.proofs.start.Statement.{statement}
 use Rattle.tape_output.proofs.start.Tie as tie
 
 returns : tie.Need-returns
-returns c = λ i. record { reader = c .before .start .ensures i; book = c .fresh .ensures i }
+returns c = λ i. record { reader = c .before .start .ensures i; book = c .empty .ensures i }
 
 pub start-spec : {M : Type 1} → statement M
 start-spec = tie.close (tie.spec (λ c κs. search needs) (λ c κs. search needs) returns)

@@ -159,27 +159,27 @@ play-on-spec =
     μ-loop2
     Inv-loop
     μ-loop
-    (λ c κs. search needs)
+    (λ c κs. tt)
     (λ c. let s = c .before .before .before .before .before .before .before .before in omega (arith, s .pre .0 .within))
     loop-holds
     (λ c. stretching-within (c .before .loop .inv .played))
     (λ c. omega (arith, c .before .before .loop .inv .short, c .before .loop-test .taken))
-    (λ c κs. search needs)
+    (λ c κs. tt)
     (λ c. omega (arith, c .least .ensures, c .before .before .loop-test .taken))
     (λ c. omega (arith, c .least .ensures, c .before .before .loop-test .taken))
     (λ c. omega (arith, c .least .ensures, c .before .before .loop-test .taken))
     (λ c. each-place (standing (c .before .before .before .before .before .loop .inv)))
     (λ c κs. look-asks (standing (c .before .before .before .before .before .loop .inv)))
-    (λ c. search needs)
-    (λ c. search needs)
+    (λ c. c .match .keys1)
+    (λ c. c .match .keys2)
     (λ c. omega (arith, held-at (c .before)))
     (λ c. omega (arith, held-at (c .before)))
     held-call-requires
     (λ c. omega (arith, held-at (c .before .before .before .before .before .before .before)))
     (λ c. omega (arith, held-at (c .before .before .before .before .before .before .before)))
-    (λ c. search needs)
-    (λ c κs. search needs)
-    (λ c κs. search needs)
+    (λ c. c .match .keys3)
+    (λ c κs. tt)
+    (λ c κs. tt)
     loop2-holds
     (λ c. omega (arith, marks-within c))
     (λ c. omega (arith, marks-within c))
@@ -192,9 +192,9 @@ play-on-spec =
     loop2-again
     (λ c. omega (arith, c .before .before .before .loop2-test .taken))
     loop2-again-2
-    (λ c. search needs)
+    (λ c. c .match .keys4)
     (λ c κs. c .before .before .before .before .before .before .before .before .before .loop .inv .played .ready .kept)
-    (λ c κs. search needs)
+    (λ c κs. tt)
     show-requires
     (λ c. omega (arith, played-at c .before .loop .inv .short, played-at c .loop-test .taken))
     (λ c. omega (arith, played-at c .loop-test .taken))

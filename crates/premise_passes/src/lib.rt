@@ -38,7 +38,8 @@ fn wind(calendar: &[u8], today: u16, file: File, standing: usize, buffer: &mut [
     }
 }
 
-// The evaluation of a file, by the last day in window, which the caller looks for once for many files. One with no order that a pass would change is left alone: most files are.
+// The evaluation of a file, by the last day in window, which the caller looks for once for many files. One with no order that a pass would
+// change is left alone: most files are.
 pub fn evaluate(
     calendar: &[u8],
     today: u16,

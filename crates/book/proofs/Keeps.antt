@@ -15,7 +15,8 @@ use Rattle.records.specs.declared.Record.{Record}
 use Rattle.records.specs.declared.Reading.{Reading}
 use Rattle.records.specs.declared.Reading.the-variants.{Malformed, Says}
 use Rattle.records.specs.Records.{reading, kindCreate, kindDayMark, wellFormed}
-use Rattle.records.proofs.Records.{formed, says}
+use Rattle.records.proofs.Formed.{formed}
+use Rattle.records.proofs.Readings.{says}
 use Rattle.premise.specs.declared.File.{File}
 use Rattle.premise.specs.WellKept.{FileKept}
 use Rattle.premise.specs.Steps.{is}

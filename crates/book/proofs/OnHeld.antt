@@ -13,7 +13,7 @@ use borrow.Author.Tests.{ne-eqb}
 use Rattle.records.specs.declared.Record.{Record}
 use Rattle.records.specs.declared.Reading.the-variants.{Says}
 use Rattle.records.specs.Records.{reading, kindCreate, kindDayMark}
-use Rattle.records.proofs.Records.{says}
+use Rattle.records.proofs.Readings.{says}
 use Rattle.premise.specs.declared.File.{File}
 use Rattle.premise.specs.Orders.{blankFile}
 use Rattle.premise.specs.Steps.{is}

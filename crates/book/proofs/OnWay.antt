@@ -11,7 +11,7 @@ use Rattle.records.specs.declared.Reading.{Reading}
 use Rattle.records.specs.declared.Reading.the-variants.{Malformed, Says}
 use Rattle.records.specs.Layout.{Bytes}
 use Rattle.records.specs.Records.{reading, kindDayMark, wellFormed}
-use Rattle.records.proofs.Records.{says, said-in-width}
+use Rattle.records.proofs.Readings.{says, said-in-width}
 use Rattle.premise.specs.declared.File.{File}
 use Rattle.premise.specs.declared.Answer.the-variants.{NotNextDay}
 use Rattle.premise.specs.Steps.{is}

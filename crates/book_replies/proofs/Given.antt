@@ -9,7 +9,7 @@ use borrow.Author.Tests.{eqb-false}
 use Rattle.records.specs.declared.Record.{Record}
 use Rattle.records.specs.declared.Reading.the-variants.{Says}
 use Rattle.records.specs.Records.{kindCreate, kindReply, kindDayMark}
-use Rattle.records.proofs.Records.{formed}
+use Rattle.records.proofs.Formed.{formed}
 use Rattle.premise.specs.declared.File.{File}
 use Rattle.premise.specs.declared.FileOrNone.{FileOrNone}
 use Rattle.premise.specs.declared.Replied.{Replied}

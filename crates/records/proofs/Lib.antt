@@ -1,5 +1,8 @@
 pub mod Fields
 pub mod Notices
 pub mod Emits
-pub mod Records
+pub mod ByNumber
+pub mod ByKind
+pub mod Formed
+pub mod Readings
 pub mod Decode

@@ -1,4 +1,4 @@
--- The cases of `wellFormed`, kind by kind, as the code's dispatch meets them; proofs/Records.antt proves that they are its cases.
+-- The cases of `wellFormed`, kind by kind, as the code's dispatch meets them; proofs/ByKind.antt proves that they are its cases.
 use Prim.Native.Nat.{ℕ}
 use mathlib.Core.List.{List, [], _∷_}
 use mathlib.Core.Bool.{Bool, false, _&&_}

@@ -1,4 +1,4 @@
--- What the layers above may rely on about records, as statements; proofs/Records.antt proves them.
+-- What the layers above may rely on about records, as statements; proofs/Formed.antt and proofs/Readings.antt prove them.
 use Prim.Native.Nat.{ℕ, _≤_, _<_}
 use mathlib.Core.Path.{_≡_}
 use mathlib.Core.List.{List, [], _∷_}

@@ -4,7 +4,7 @@ use mathlib.Core.Path.{sym, _∙_}
 use borrow.Author.Needs.{needs}
 use borrow.Author.Tests.{eq-eqb, ne-eqb}
 use Rattle.records.specs.Records.{kindDayMark}
-use Rattle.records.proofs.Records.{says}
+use Rattle.records.proofs.Readings.{says}
 use Rattle.premise.specs.declared.Answer.the-variants.{MalformedRecord}
 use Rattle.book.specs.Calls.{refusal}
 use Rattle.book_replies.specs.Parts.{onDayMark, onOther}

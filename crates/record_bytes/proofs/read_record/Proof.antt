@@ -5,7 +5,7 @@ use mathlib.Core.Path.{_≡_, sym, ap, _∙_}
 use mathlib.Core.Bool.{true, false}
 use Rattle.records.specs.declared.Reading.the-variants.{Says}
 use Rattle.records.specs.Records.{wellFormed, fieldsOf}
-use Rattle.records.proofs.Records.{reading-length, reading-zeros, reading-unformed, reading-says}
+use Rattle.records.proofs.Readings.{reading-length, reading-zeros, reading-unformed, reading-says}
 use Rattle.record_bytes.proofs.read_record.Statement.{statement}
 use Rattle.record_bytes.proofs.read_record.Tie as tie
 

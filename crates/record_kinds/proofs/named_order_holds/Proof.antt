@@ -4,7 +4,7 @@ use native.Mathlib.Omega.{arith}
 use mathlib.Core.Path.{_≡_, sym, _∙_}
 use mathlib.Core.Logic.{⊎-elim}
 use Rattle.records.specs.Records.{kindScheduled, kindRead, kindCancel, kindReply}
-use Rattle.records.proofs.Records.{formed-at, formed-undated}
+use Rattle.records.proofs.ByKind.{formed-at, formed-undated}
 use Rattle.record_kinds.proofs.named_order_holds.Statement.{statement}
 use Rattle.record_kinds.proofs.named_order_holds.Tie as tie
 

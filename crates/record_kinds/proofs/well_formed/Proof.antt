@@ -3,7 +3,7 @@ use borrow.Author.Needs.{needs}
 use native.Mathlib.Omega.{arith}
 use mathlib.Core.Path.{sym, _∙_}
 use Rattle.records.specs.Records.{kindCreate, kindRetire, kindNewOrder, kindDayMark}
-use Rattle.records.proofs.Records.{formed-at, formed-past}
+use Rattle.records.proofs.ByKind.{formed-at, formed-past}
 use Rattle.record_kinds.proofs.well_formed.Statement.{statement}
 use Rattle.record_kinds.proofs.well_formed.Tie as tie
 

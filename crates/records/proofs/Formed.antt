@@ -1,0 +1,118 @@
+-- Laws of `wellFormed`: the facts that its tests stand for, of a known kind and of any. Assumes nothing.
+use Prim.Native.Nat.{ℕ, _≤_}
+use mathlib.Core.Path.{_≡_, refl, sym, _∙_}
+use mathlib.Core.List.{[], _∷_}
+use mathlib.Core.Bool.{Bool, true, false, cond, not, _&&_, false≢true}
+use native.Mathlib.Omega.{arith}
+use lib.Dec.{eqb, leb}
+use borrow.Author.Tests.{eqb-true, eqb-false, leb-true, leb-false, not-true}
+use Rattle.lists.proofs.TestLaws.{and-left, and-right, pass-each}
+use Rattle.days.specs.Days.{lastDay, isDay}
+use Rattle.records.specs.declared.Record.{Record}
+use Rattle.records.specs.Records.{kindDayMark, standardSwitch, massTransitionDrop, replyReject, lastRetailer, unused, aReference, aPremise, aRetailer, aRetailerOrNone, anOrderKind, aReply, orderDay, wellFormed}
+use Rattle.records.specs.Kinds.{holds, datedHolds, undatedHolds, holdsByKind}
+use Rattle.records.specs.Laws.{Unused, ADay, Given, ARetailerOrNone, FieldsOfKind, fieldsByKind, Fields, UpTo, OrderDay, Formed}
+use Rattle.records.proofs.ByNumber.{_also_, every-at, Means, means-at}
+use Rattle.records.proofs.ByKind.{formed-at, formed-past}
+
+is-unused : (n : ℕ) → unused n ≡ true → Unused n
+is-unused n h = eqb-true n 0 h
+
+is-day : (n : ℕ) → isDay n ≡ true → ADay n
+is-day n h = leb-true n lastDay h
+
+is-given : (n : ℕ) → not (eqb n 0) ≡ true → Given n
+is-given n h =
+    let k = eqb-false n 0 (not-true (eqb n 0) h) in
+    omega arith
+
+is-up-to : (last n : ℕ) → (leb 1 n && leb n last) ≡ true → UpTo last n
+is-up-to last n h =
+    record { given = leb-true 1 n (and-left (leb 1 n) (leb n last) h); within = leb-true n last (and-right (leb 1 n) (leb n last) h) }
+
+is-at-most : (n : ℕ) → aRetailerOrNone n ≡ true → ARetailerOrNone n
+is-at-most n h = leb-true n lastRetailer h
+
+is-order-day : (kind n : ℕ) → orderDay kind n ≡ true → OrderDay kind n
+is-order-day kind n h = go (eqb kind standardSwitch) refl h
+  where
+    go : (b : Bool) → eqb kind standardSwitch ≡ b → cond b unused isDay n ≡ true → OrderDay kind n
+    go true e h = let z = eqb-true n 0 h in record { within = omega arith; standard = λ k. z }
+    go false e h = record { within = leb-true n lastDay h; standard = λ k. absurd (eqb-false kind standardSwitch e k) }
+
+are-fields : {Detail Day Reference Premise Retailer : ℕ → Type 0} (detail day reference premise retailer : ℕ → Bool) (r : Record)
+    → ((n : ℕ) → detail n ≡ true → Detail n)
+    → ((n : ℕ) → day n ≡ true → Day n)
+    → ((n : ℕ) → reference n ≡ true → Reference n)
+    → ((n : ℕ) → premise n ≡ true → Premise n)
+    → ((n : ℕ) → retailer n ≡ true → Retailer n)
+    → holds detail day reference premise retailer r ≡ true
+    → Fields Detail Day Reference Premise Retailer r
+are-fields detail day reference premise retailer r d y f p q h =
+    let k = pass-each (detail (r .detail)) (day (r .day) ∷ reference (r .reference) ∷ premise (r .premise) ∷ retailer (r .retailer) ∷ []) h in
+    record {
+      detail = d (r .detail) (k .0);
+      day = y (r .day) (k .1 .0);
+      reference = f (r .reference) (k .1 .1 .0);
+      premise = p (r .premise) (k .1 .1 .1 .0);
+      retailer = q (r .retailer) (k .1 .1 .1 .1 .0);
+    }
+
+dated : (r : Record) → datedHolds r ≡ true → Fields Unused ADay Given Given Unused r
+dated r = are-fields unused isDay aReference aPremise unused r is-unused is-day is-given is-given is-unused
+
+undated : (r : Record) → undatedHolds r ≡ true → Fields Unused Unused Given Given Unused r
+undated r = are-fields unused unused aReference aPremise unused r is-unused is-unused is-given is-given is-unused
+
+by-kind : (r : Record) → Means (holdsByKind r) (fieldsByKind r)
+by-kind r =
+    false≢true
+    also are-fields unused isDay unused aPremise aRetailerOrNone r is-unused is-day is-unused is-given is-at-most
+    also are-fields unused unused unused aPremise unused r is-unused is-unused is-unused is-given is-unused
+    also are-fields anOrderKind (orderDay (r .detail)) aReference aPremise aRetailer r (is-up-to massTransitionDrop) (is-order-day (r .detail)) is-given is-given (is-up-to lastRetailer)
+    also dated r
+    also undated r
+    also undated r
+    also dated r
+    also are-fields unused unused aReference aPremise aRetailer r is-unused is-unused is-given is-given (is-up-to lastRetailer)
+    also are-fields aReply unused aReference aPremise unused r (is-up-to replyReject) is-unused is-given is-given is-unused
+    also are-fields unused isDay unused unused unused r is-unused is-day is-unused is-unused is-unused
+    also tt
+
+-- What a well-formed record of a known kind holds.
+pub fields-at : (kind : ℕ) (r : Record) → wellFormed r ≡ true → r .kind ≡ kind → FieldsOfKind kind r
+fields-at kind r w e = means-at (holdsByKind r) (fieldsByKind r) (by-kind r) kind (sym (formed-at kind r e) ∙ w)
+
+module _ (r : Record) (w : wellFormed r ≡ true) where
+  some-kind : 1 ≤ r .kind
+  some-kind = go (eqb (r .kind) 0) refl
+    where
+      go : (b : Bool) → eqb (r .kind) 0 ≡ b → 1 ≤ r .kind
+      go true e = absurd (false≢true (sym (formed-at 0 r (eqb-true (r .kind) 0 e)) ∙ w))
+      go false e =
+          let other = eqb-false (r .kind) 0 e in
+          omega arith
+
+  last-kind : r .kind ≤ kindDayMark
+  last-kind = go (leb (r .kind) kindDayMark) refl
+    where
+      go : (b : Bool) → leb (r .kind) kindDayMark ≡ b → r .kind ≤ kindDayMark
+      go true e = leb-true (r .kind) kindDayMark e
+      go false e = absurd (false≢true (sym (formed-past r (leb-false (r .kind) kindDayMark e)) ∙ w))
+
+-- What a well-formed record of any kind holds.
+pub formed : (r : Record) → wellFormed r ≡ true → Formed r
+formed r w =
+    every-at (λ (k : ℕ). r .kind ≡ k → Formed r) 1 10
+    ((λ e. let f = fields-at 1 r w e in omega arith)
+    also (λ e. let f = fields-at 2 r w e in omega arith)
+    also (λ e. let f = fields-at 3 r w e in omega arith)
+    also (λ e. let f = fields-at 4 r w e in omega arith)
+    also (λ e. let f = fields-at 5 r w e in omega arith)
+    also (λ e. let f = fields-at 6 r w e in omega arith)
+    also (λ e. let f = fields-at 7 r w e in omega arith)
+    also (λ e. let f = fields-at 8 r w e in omega arith)
+    also (λ e. let f = fields-at 9 r w e in omega arith)
+    also (λ e. let f = fields-at 10 r w e in omega arith)
+    also tt)
+    (r .kind) (some-kind r w) (omega (arith, last-kind r w)) refl

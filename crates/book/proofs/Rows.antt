@@ -121,7 +121,7 @@ module _ (calendar : List ℕ) (b : Book) (bytes lent : List ℕ) where
   -- with a long enough buffer and a well-kept book the first row is one of the record's
   pub record-decides : noticeBytes ≤ length lent → bookKept b ≡ true → firstRow (callRows calendar b bytes lent) ≡ firstRow (recordRows calendar b (reading bytes))
   unfolding callRows
-  record-decides h k = rw (le-ltb (length lent) noticeBytes h, k)
+  record-decides h k = rw (le-ltb (length lent) noticeBytes h, k) refl
 
   pub call-exact : Exact (callRows calendar b bytes lent)
   unfolding callRows

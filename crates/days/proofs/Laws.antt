@@ -52,8 +52,8 @@ module _ (calendar : List ℕ) (day to : ℕ) where
   pub count-end : to ≤ day → businessDays calendar day to ≡ 0
   unfolding businessDays
   count-end h =
-      let e : to - day ≡ 0 = omega arith in
-      rw e
+      let none : to - day ≡ 0 = omega arith in
+      ap (λ (many : ℕ). countFrom calendar many day) none
 
   count-step : day < to → businessDays calendar day to ≡ cond (isBusinessDay calendar day) 1 0 + businessDays calendar (day + 1) to
   unfolding businessDays

@@ -107,8 +107,8 @@ create-passes r more h = rw (eqb-true (r .kind) kindCreate h)
 
 -- what is done by a record that is no day mark is done on the day that it was
 effect-stays : (calendar : List ℕ) (today : ℕ) (file : Option File) (r : Record) → is kindDayMark r ≡ false → effectOn calendar today file r .state .today ≡ today
-effect-stays calendar today none r h = by-test (λ (g : Given). g .state .today ≡ today) (is kindCreate r) _ _ (λ e. refl) (λ e. rw h)
-effect-stays calendar today (some f) r h = by-test (λ (g : Given). g .state .today ≡ today) (is kindRetire r) _ _ (λ e. refl) (λ e. rw h)
+effect-stays calendar today none r h = by-test (λ (g : Given). g .state .today ≡ today) (is kindCreate r) _ _ (λ e. refl) (λ e. rw h refl)
+effect-stays calendar today (some f) r h = by-test (λ (g : Given). g .state .today ≡ today) (is kindRetire r) _ _ (λ e. refl) (λ e. rw h refl)
 
 pub only-marks-move : OnlyMarksMove
 unfolding step
@@ -116,7 +116,7 @@ only-marks-move calendar s r h = either (λ g. g .state .today ≡ s .today) (fi
 
 pub only-create-makes : OnlyCreateMakes
 unfolding step
-only-create-makes calendar today r h = either (λ g. g .state .file ≡ none) (firstRow (rows calendar today none r)) (record { today = today; file = none }) (rw h) refl
+only-create-makes calendar today r h = either (λ g. g .state .file ≡ none) (firstRow (rows calendar today none r)) (record { today = today; file = none }) (rw h refl) refl
 
 pub only-retire-takes : OnlyRetireTakes
 unfolding step
@@ -131,8 +131,8 @@ unfolding premiseRows orderRows
 mark-rows calendar today file r e = rw e
 
 mark-effect : (calendar : List ℕ) (today : ℕ) (file : Option File) (r : Record) → r .kind ≡ kindDayMark → effectOn calendar today file r ≡ markedOr calendar (r .day) file
-mark-effect calendar today none r e = rw e
-mark-effect calendar today (some f) r e = rw e
+mark-effect calendar today none r e = rw e refl
+mark-effect calendar today (some f) r e = rw e refl
 
 pub mark-step : MarkStep
 unfolding step number

@@ -6,6 +6,7 @@ use mathlib.Core.Logic.{⊎-elim}
 use native.Mathlib.Omega.{arith}
 use borrow.Author.Needs.{needs}
 use borrow.Author.Tests.{le-leb, lt-leb}
+use Rattle.days.specs.Days.{lastDay}
 use Rattle.days.specs.Window.{businessDays, inWindow}
 use Rattle.days.proofs.Laws.{count-end, count-here, count-next}
 use Rattle.day_window.proofs.in_window.Statement.{statement}
@@ -22,7 +23,9 @@ abbrev μ-loop : tie.MeasureT-loop
 
 returns : tie.Need-returns Inv-loop μ-loop
 unfolding inWindow
-returns c = simp (lt-leb _ _ (c .if1 .taken))
+returns c =
+    let past : lastDay < c .before .before .args .scheduled = omega (arith, c .if1 .taken) in
+    simp (lt-leb _ _ past)
 
 loop-holds : tie.Need-loop-holds Inv-loop μ-loop
 loop-holds c = search needs
@@ -37,7 +40,8 @@ returns-2 c =
     let a = l .before .before .before .args in
     let h = count-here (a .calendar .now) (l .loop .day) (a .scheduled) (omega arith) (sym (c .before .before .is-business-day .ensures) ∙ c .before .if2 .taken) in
     let many : a .width < businessDays (a .calendar .now) (a .today) (a .scheduled) = omega (arith, h, l .loop .inv, c .if3 .taken) in
-    simp (le-leb _ _ (l .before .if1 .left), lt-leb _ _ many)
+    let a-day : a .scheduled ≤ lastDay = omega (arith, l .before .if1 .left) in
+    simp (le-leb _ _ a-day, lt-leb _ _ many)
 
 sub-left : tie.Need-sub-left Inv-loop μ-loop
 sub-left c = search needs
@@ -64,7 +68,8 @@ returns-3 c =
     let l = c .before in
     let a = l .before .before .before .args in
     let few : businessDays (a .calendar .now) (a .today) (a .scheduled) ≤ a .width = omega (arith, count-end (a .calendar .now) (l .loop .day) (a .scheduled) (omega arith), l .loop .inv) in
-    simp (le-leb _ _ (l .before .if1 .left), le-leb _ _ few)
+    let a-day : a .scheduled ≤ lastDay = omega (arith, l .before .if1 .left) in
+    simp (le-leb _ _ a-day, le-leb _ _ few)
 
 pub in-window-spec : {M : Type 1} → statement M
 in-window-spec =

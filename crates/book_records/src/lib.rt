@@ -10,6 +10,7 @@ use book::Reply;
 use premise::Answer;
 use records::Reading;
 use records::Record;
+use records::record_kind;
 
 // A record that is no day mark: it goes to its premise.
 fn on_premise(calendar: &[u8], b: Book, r: Record, buffer: &mut [u8]) -> Reply
@@ -36,10 +37,11 @@ pub fn on_bytes(calendar: &[u8], b: Book, bytes: &[u8], buffer: &mut [u8]) -> Re
     match reading {
         Reading::Malformed => book_replies::refuse(Answer::MalformedRecord, b),
         Reading::Says(r) => {
-            if r.kind == records::record_kind::DAY_MARK {
-                return book_marks::on_mark(calendar, b, r, buffer);
+            let kind = r.kind;
+            match kind {
+                record_kind::CREATE..=record_kind::REPLY => on_premise(calendar, b, r, buffer),
+                _ => book_marks::on_mark(calendar, b, r, buffer),
             }
-            on_premise(calendar, b, r, buffer)
         }
     }
 }

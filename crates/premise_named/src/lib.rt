@@ -17,6 +17,7 @@ use premise::Order;
 use premise::PERMIT_PENDING;
 use premise::SCHEDULED;
 use records::Record;
+use records::record_kind;
 
 // The retailer of a premise that is de-energized.
 pub const NOBODY: u32 = 0;
@@ -37,12 +38,12 @@ fn is_taken(r: Record, o: Order) -> bool
 {
     let kind = r.kind;
     match kind {
-        4 => is_one_of(o, IN_REVIEW, PERMIT_PENDING, CANCEL_PENDING),
-        5 => can_need_permit(o),
-        6 => premise_orders::is_open(o),
-        7 => is_one_of(o, SCHEDULED, PERMIT_PENDING, PERMIT_PENDING),
-        8 => is_one_of(o, IN_REVIEW, PERMIT_PENDING, SCHEDULED),
-        9 => o.status == CANCEL_PENDING,
+        record_kind::SCHEDULED => is_one_of(o, IN_REVIEW, PERMIT_PENDING, CANCEL_PENDING),
+        record_kind::PERMIT => can_need_permit(o),
+        record_kind::UNEXECUTABLE => premise_orders::is_open(o),
+        record_kind::READ => is_one_of(o, SCHEDULED, PERMIT_PENDING, PERMIT_PENDING),
+        record_kind::CANCEL => is_one_of(o, IN_REVIEW, PERMIT_PENDING, SCHEDULED),
+        record_kind::REPLY => o.status == CANCEL_PENDING,
         _ => false,
     }
 }

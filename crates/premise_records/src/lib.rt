@@ -22,6 +22,7 @@ use premise_notices::CODE_REJECT;
 use premise_notices::CODE_SCHEDULED;
 use premise_notices::CODE_UNEXECUTABLE;
 use records::Record;
+use records::record_kind;
 
 // An order as a record leaves it, and one notice on it.
 fn tell(
@@ -181,17 +182,17 @@ pub fn change_order(file: File, r: Record, o: Order, standing: usize, buffer: &m
 {
     let kind = r.kind;
     match kind {
-        4 => scheduled(file, r, o, standing, buffer),
-        5 => permit(file, r, o, standing, buffer),
-        6 => unexecutable(file, r, o, standing, buffer),
-        7 => {
+        record_kind::SCHEDULED => scheduled(file, r, o, standing, buffer),
+        record_kind::PERMIT => permit(file, r, o, standing, buffer),
+        record_kind::UNEXECUTABLE => unexecutable(file, r, o, standing, buffer),
+        record_kind::READ => {
             let t = read(r, o);
             Stepped {
                 order: t,
                 sent: standing,
             }
         }
-        8 => cancel(file, r, o, standing, buffer),
+        record_kind::CANCEL => cancel(file, r, o, standing, buffer),
         _ => reply(file, r, o, standing, buffer),
     }
 }

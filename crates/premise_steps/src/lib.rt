@@ -15,6 +15,7 @@ use premise::FileOrNone;
 use premise::Replied;
 use premise_replies::reply;
 use records::Record;
+use records::record_kind;
 
 // Kind 2 on a file: row 7, then the file leaves.
 fn on_retire(file: File, standing: usize) -> Replied
@@ -50,8 +51,22 @@ fn on_file(
 {
     let kind = r.kind;
     match kind {
-        4..=9 => premise_named_step::on_named(calendar, today, file, r, standing, buffer),
-        3 => premise_new_order_step::on_new_order(calendar, today, file, r, standing, buffer),
+        record_kind::SCHEDULED..=record_kind::REPLY => premise_named_step::on_named(
+            calendar,
+            today,
+            file,
+            r,
+            standing,
+            buffer,
+        ),
+        record_kind::NEW_ORDER => premise_new_order_step::on_new_order(
+            calendar,
+            today,
+            file,
+            r,
+            standing,
+            buffer,
+        ),
         _ => on_retire(file, standing),
     }
 }
@@ -96,7 +111,7 @@ pub fn on_record(
 {
     let kind = r.kind;
     match kind {
-        2..=9 => {
+        record_kind::RETIRE..=record_kind::REPLY => {
             if slot.held {
                 let file = slot.file;
                 return on_file(calendar, today, file, r, standing, buffer);

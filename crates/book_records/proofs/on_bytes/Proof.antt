@@ -1,9 +1,12 @@
 -- `book_records::on_bytes` meets its contract: row 3 for malformed bytes; else a day mark or a premise's record does what the call does.
 -- Assumes nothing.
-use mathlib.Core.Path.{sym, _∙_}
+use mathlib.Core.Path.{_≡_, sym, _∙_}
+use mathlib.Core.Logic.{⊎-elim}
+use native.Mathlib.Omega.{arith}
 use borrow.Author.Needs.{needs}
 use borrow.Author.Tests.{eq-eqb, ne-eqb}
 use Rattle.records.specs.Records.{kindDayMark}
+use Rattle.records.proofs.Formed.{formed}
 use Rattle.records.proofs.Readings.{says}
 use Rattle.premise.specs.declared.Answer.the-variants.{MalformedRecord}
 use Rattle.book.specs.Calls.{refusal}
@@ -25,25 +28,6 @@ refuse-requires c κs = search needs
 enum-known-reading : tie.Need-enum-known-reading
 enum-known-reading c = search needs
 
-on-mark-requires : tie.Need-on-mark-requires
-on-mark-requires c κs = search needs
-
-same-length : tie.Need-same-length
-same-length c = search needs
-
-returns : tie.Need-returns
-returns c =
-    let m = c .before .before in
-    let t = m .before .before in
-    let d = t .before .before .before in
-    let w = d .before .before in
-    let s = w .before .before .before .before in
-    let a = s .args in
-    let r = d .reading .given .0 .0 in
-    promised (a .calendar .now) (a .b) (a .bytes .now) (a .buffer .now) (onDayMark (a .calendar .now) (a .b) r) (m .on-mark .result) _
-    (call-mark (a .calendar .now) (a .b) (a .bytes .now) (a .buffer .now) (s .pre .0) (s .pre .1) r (sym (w .read-record .ensures) ∙ d .reading .given .1) (eq-eqb (r .kind) kindDayMark (t .if1 .taken)))
-    (m .on-mark .ensures)
-
 on-premise-requires : tie.Need-on-premise-requires
 on-premise-requires c κs =
     let t = c .before in
@@ -55,12 +39,15 @@ on-premise-requires c κs =
     record {
       kept = s .pre .0;
       formed = says (a .bytes .now) r (sym (w .read-record .ensures) ∙ d .reading .given .1) .formed;
-      other = ne-eqb (r .kind) kindDayMark (t .if1 .left);
+      other = ne-eqb (r .kind) kindDayMark (omega (arith, t .if2 .taken));
       room = s .pre .1;
     }
 
-returns-2 : tie.Need-returns-2
-returns-2 c =
+on-mark-requires : tie.Need-on-mark-requires
+on-mark-requires c κs = search needs
+
+returns : tie.Need-returns
+returns c =
     let d = c .before in
     let w = d .before .before in
     let s = w .before .before .before .before in
@@ -69,11 +56,11 @@ returns-2 c =
     (call-malformed (a .calendar .now) (a .b) (a .bytes .now) (a .buffer .now) (s .pre .0) (s .pre .1) (sym (w .read-record .ensures) ∙ d .enum-told .given .1))
     (gives-refusal MalformedRecord (a .b) (c .refuse .result) (a .buffer .now) (c .refuse .ensures))
 
-same-length-2 : tie.Need-same-length-2
-same-length-2 c = search needs
+same-length : tie.Need-same-length
+same-length c = search needs
 
-returns-3 : tie.Need-returns-3
-returns-3 c =
+returns-2 : tie.Need-returns-2
+returns-2 c =
     let m = c .before .before in
     let t = m .before .before in
     let d = t .before .before .before in
@@ -82,8 +69,27 @@ returns-3 c =
     let a = s .args in
     let r = d .reading .given .0 .0 in
     promised (a .calendar .now) (a .b) (a .bytes .now) (a .buffer .now) (onOther (a .calendar .now) (a .b) r) (m .on-premise .result) _
-    (call-other (a .calendar .now) (a .b) (a .bytes .now) (a .buffer .now) (s .pre .0) (s .pre .1) r (sym (w .read-record .ensures) ∙ d .reading .given .1) (ne-eqb (r .kind) kindDayMark (t .if1 .left)))
+    (call-other (a .calendar .now) (a .b) (a .bytes .now) (a .buffer .now) (s .pre .0) (s .pre .1) r (sym (w .read-record .ensures) ∙ d .reading .given .1) (ne-eqb (r .kind) kindDayMark (omega (arith, t .if2 .taken))))
     (m .on-premise .ensures)
+
+same-length-2 : tie.Need-same-length-2
+same-length-2 c = search needs
+
+returns-3 : tie.Need-returns-3
+returns-3 c =
+    let m = c .before .before in
+    let j = m .before .before in
+    let d = j .before .before in
+    let w = d .before .before in
+    let s = w .before .before .before .before in
+    let a = s .args in
+    let r = d .reading .given .0 .0 in
+    let e = sym (w .read-record .ensures) ∙ d .reading .given .1 in
+    let kinds = formed r (says (a .bytes .now) r e .formed) .kind in
+    let mark : r .kind ≡ kindDayMark = ⊎-elim (λ t. omega (arith, t .taken, kinds .given)) (λ t. omega (arith, t .1 .left, kinds .within)) (j .if1 .came) in
+    promised (a .calendar .now) (a .b) (a .bytes .now) (a .buffer .now) (onDayMark (a .calendar .now) (a .b) r) (m .on-mark .result) _
+    (call-mark (a .calendar .now) (a .b) (a .bytes .now) (a .buffer .now) (s .pre .0) (s .pre .1) r e (eq-eqb (r .kind) kindDayMark mark))
+    (m .on-mark .ensures)
 
 pub on-bytes-spec : {M : Type 1} → statement M
 on-bytes-spec =
@@ -93,10 +99,10 @@ on-bytes-spec =
     enum-told
     refuse-requires
     enum-known-reading
-    on-mark-requires
-    same-length
-    returns
     on-premise-requires
+    on-mark-requires
+    returns
+    same-length
     returns-2
     same-length-2
     returns-3)

@@ -1,11 +1,10 @@
 -- A file put in by its premise's number: where it stands then, among files in rising numbers. Assumes nothing.
-use Prim.Native.Nat.{ℕ, suc, _-_, _<_}
+use Prim.Native.Nat.{ℕ, suc, _<_}
 use mathlib.Core.Path.{_≡_, refl, ap, _∙_, sym}
 use mathlib.Core.List.{List, [], _∷_}
 use native.Mathlib.Omega.{arith}
 use lib.ListN.{length, getD, set}
 use Rattle.lists.specs.Shift.{inserted}
-use Rattle.lists.proofs.Over.{over}
 use Rattle.premise.specs.declared.File.{File}
 use Rattle.book.specs.Book.{fileFor, putIn}
 use Rattle.book_files.specs.Places.{before}

@@ -1,6 +1,6 @@
 -- Laws of a tidy book: its files as a list, and the book with other files. Assumes nothing.
-use Prim.Native.Nat.{ℕ, zero, suc, _-_, _≤_, _<_}
-use mathlib.Core.Path.{_≡_, refl, ap, ap₂, _∙_, sym}
+use Prim.Native.Nat.{ℕ, zero, suc, _-_, _<_}
+use mathlib.Core.Path.{_≡_, refl, ap, _∙_, sym}
 use mathlib.Core.List.{List, [], _++_}
 use native.Mathlib.Omega.{arith}
 use lib.ListN.{length, drop, getD, set, replicate, length-append, length-replicate, length-set, getD-replicate}
@@ -10,7 +10,6 @@ use Rattle.premise.specs.Orders.{blankFile}
 use Rattle.book.specs.declared.Book.{Book}
 use Rattle.book.specs.Book.{mostFiles, filesOf, bookOf}
 use Rattle.book.specs.Laws.{BookKept}
-use Rattle.book.proofs.Kept.{holds-its-files}
 use Rattle.book_files.specs.Places.{TidyBook}
 
 -- what is read past an array's end
@@ -51,14 +50,6 @@ count-of today fs = refl
 files-of : (today : ℕ) (fs : List File) → bookOf today fs .files ≡ fs ++ spare (mostFiles - length fs)
 unfolding bookOf spare
 files-of today fs = refl
-
-today-of : (today : ℕ) (fs : List File) → bookOf today fs .today ≡ today
-unfolding bookOf
-today-of today fs = refl
-
-pub tidy-of : (today : ℕ) (fs : List File) → length fs ≤ mostFiles → TidyBook (bookOf today fs)
-tidy-of today fs h =
-    record { few = omega (arith, count-of today fs); whole = ap₂ bookOf (sym (today-of today fs)) (sym (holds-its-files today fs)) }
 
 pub tidy-kept : (b : Book) → BookKept b → TidyBook b
 tidy-kept b k = record { few = k .few; whole = k .whole }

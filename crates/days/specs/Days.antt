@@ -1,7 +1,7 @@
 -- Document 01, "Days". A calendar is lent bytes, one per day: here the list of its bytes.
 use Prim.Native.Nat.{ℕ, zero, suc, _-_}
 use mathlib.Core.List.{List}
-use mathlib.Core.Bool.{Bool, true, false, cond, _&&_}
+use mathlib.Core.Bool.{Bool, cond, _&&_}
 use lib.ListN.{getD, length}
 use lib.Dec.{ltb, leb, eqb}
 

@@ -4,7 +4,7 @@ use mathlib.Core.List.{List, [], _∷_, _++_}
 use mathlib.Core.Bool.{Bool, true, false, _&&_, Bool·beq}
 use lib.Dec.{eqb}
 use lib.ListN.{replicate}
-use Rattle.days.specs.Days.{lastDay, noDay, switchDate}
+use Rattle.days.specs.Days.{noDay, switchDate}
 use Rattle.days.specs.Window.{windowWidth, inWindow}
 
 -- a case: what is asked of a calendar, and what must come out

@@ -1,9 +1,9 @@
 -- A list written over from its start: the laws of loops that store into an array. Assumes nothing.
-use Prim.Native.Nat.{ℕ, zero, suc, _+_, _-_, _≤_, _<_}
-use mathlib.Core.Path.{_≡_, refl, ap, _∙_, sym}
-use mathlib.Core.List.{List, [], _∷_, _++_, append-assoc, append-nil}
-use lib.ListN.{length, take, drop, getD, set, replicate, length-append, length-take, length-drop, take-append-drop, length-replicate}
-use lib.Seq.{take-at, drop-at, getD-at, set-at, drop-cons, take-suc, length-take-le, getD-drop, getD-append-add, drop-drop, take-append-le, drop-append-le}
+use Prim.Native.Nat.{ℕ, suc, _+_, _-_, _≤_, _<_}
+use mathlib.Core.Path.{_≡_, refl, ap, _∙_}
+use mathlib.Core.List.{List, [], _∷_, _++_, append-assoc}
+use lib.ListN.{length, take, drop, getD, set, take-append-drop}
+use lib.Seq.{set-at, drop-cons, take-suc, length-take-le, getD-drop, getD-append-add}
 use native.Mathlib.Omega.{arith}
 use native.Mathlib.Numerals.{add-one}
 
@@ -32,7 +32,3 @@ module _ {X : Type 0} (d : X) (new old : List X) where
   over-set i h k =
       rw (drop-cons old i d h, set-at (take i new) (getD old i d) (drop (suc i) old) (getD new i d) i (length-take-le i new (omega arith)), add-one i, take-suc new i d k)
       (rw (append-assoc (take i new) (getD new i d ∷ []) (drop (suc i) old)) refl)
-
-  pub over-length : (i : ℕ) → length new ≡ length old → i ≤ length new → length (over i new old) ≡ length old
-  unfolding over
-  over-length i e h = rw (length-append, length-take-le i new h, length-drop) (omega arith)

@@ -1,6 +1,6 @@
 -- A day mark gives at most two notices for each held order, and a record at most two more than that. Assumes nothing.
 use Prim.Native.Nat.{ℕ, _*_, _≤_, _<_}
-use mathlib.Core.Path.{_≡_, refl, sym, ap, _∙_}
+use mathlib.Core.Path.{_≡_, sym, ap, _∙_}
 use mathlib.Core.List.{List, [], _∷_, _++_}
 use mathlib.Core.Option.{Option, none, some}
 use mathlib.Core.Bool.{true, false, cond, true≢false}
@@ -14,7 +14,7 @@ use Rattle.records.specs.declared.Record.{Record}
 use Rattle.records.specs.Records.{kindCreate, kindRetire, kindNewOrder, kindDayMark}
 use Rattle.premise.specs.declared.Order.{Order}
 use Rattle.premise.specs.declared.File.{File}
-use Rattle.premise.specs.Orders.{mostOrders, held, places, withOrders}
+use Rattle.premise.specs.Orders.{mostOrders, held, withOrders}
 use Rattle.premise.specs.Passes.{Outcome, Effect}
 use Rattle.premise.specs.Steps.{is, makeRoom, newOrder, named, orderAt, supplied, ordered, changed, onOrder, onScheduled, onPermit, onUnexecutable, onRead, onCancel, onReply}
 use Rattle.premise.specs.Clock.{clock, ticked}

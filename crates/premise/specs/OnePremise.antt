@@ -7,14 +7,11 @@ use mathlib.Core.Bool.{cond}
 use lib.Dec.{eqb}
 use Rattle.days.specs.Days.{lastDay}
 use Rattle.records.specs.declared.Record.{Record}
-use Rattle.records.specs.declared.Reading.{Reading}
-use Rattle.records.specs.declared.Reading.the-variants.{Malformed, Says}
 use Rattle.records.specs.declared.Notice.{Notice}
 use Rattle.records.specs.Records.{kindCreate, kindRetire, kindNewOrder, kindDayMark}
-use Rattle.premise.specs.declared.Order.{Order}
 use Rattle.premise.specs.declared.File.{File}
 use Rattle.premise.specs.declared.Answer.{Answer}
-use Rattle.premise.specs.declared.Answer.the-variants.{Accepted, MalformedRecord}
+use Rattle.premise.specs.declared.Answer.the-variants.{Accepted}
 use Rattle.lists.specs.declared.Found.{Found}
 use Rattle.lists.specs.declared.Found.the-variants.{At, Nothing}
 use Rattle.premise.specs.Orders.{held}
@@ -93,11 +90,6 @@ decide answer done s = cond (eqb (number answer) 0) done (refused answer s)
 
 unfoldable pub step : List ℕ → State → Record → Given
 step calendar s r = decide (firstRow (rows calendar (s .today) (s .file) r)) (effectOn calendar (s .today) (s .file) r) s
-
--- the same for what the bytes of a record say
-abbrev pub stepReading : List ℕ → State → Reading → Given
-stepReading calendar s Malformed = refused MalformedRecord s
-stepReading calendar s (Says r) = step calendar s r
 
 -- The run over a list of records: what each gives, in order, and the state at the end.
 abbrev pub runs : List ℕ → State → List Record → List Given

@@ -1,12 +1,12 @@
 -- What is done to an order, to a file's orders one after another, and to a file: what is there afterwards, and the notices.
 use Prim.Native.Nat.{ℕ, suc}
 use mathlib.Core.List.{List, [], _∷_, _++_}
-use mathlib.Core.Bool.{Bool, cond}
+use mathlib.Core.Bool.{cond}
 use lib.Dec.{leb}
 use Rattle.records.specs.declared.Notice.{Notice}
 use Rattle.premise.specs.declared.Order.{Order}
 use Rattle.premise.specs.declared.File.{File}
-use Rattle.premise.specs.Orders.{held, withOrders}
+use Rattle.premise.specs.Orders.{withOrders}
 
 -- The notice codes: 1 814_03, 2 814_24, 3 814_05 or 814_25, 4 814_06, 5 814_08, 6 814_28 permit, 7 814_28 unexecutable, 8 814_09 reject.
 abbrev pub codeOrder : ℕ

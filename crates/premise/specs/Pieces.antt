@@ -13,10 +13,10 @@ use Rattle.records.specs.Records.{kindCreate, kindRetire, kindNewOrder, kindSch
 use Rattle.records.specs.Notices.{tdsp}
 use Rattle.premise.specs.declared.Order.{Order}
 use Rattle.premise.specs.declared.File.{File}
-use Rattle.premise.specs.Orders.{inReview, permitPending, scheduled, cancelPending, complete, cancelled, unexecutable, held}
+use Rattle.premise.specs.Orders.{inReview, permitPending, scheduled, cancelPending, complete, cancelled}
 use Rattle.premise.specs.Passes.{codeOrder, codeMoveOut, codeScheduled, codeLosing, codeCancel, codePermit, codeUnexecutable, codeReject}
 use Rattle.premise.specs.Refusals.{number, ordersOf}
-use Rattle.premise.specs.OnePremise.{State, Given, startState, runs, endState}
+use Rattle.premise.specs.OnePremise.{Given, startState, runs, endState}
 
 -- ---- records in the trade's words, all for premise 7
 abbrev pub create : ℕ → ℕ → Record

@@ -1,7 +1,7 @@
 -- Document 01, "Records": the steps of each record kind on a file, before the evaluation that ends kinds 3 to 9.
 use Prim.Native.Nat.{ℕ}
 use mathlib.Core.List.{List, [], _∷_, _++_}
-use mathlib.Core.Bool.{Bool, true, false, cond, not, _&&_, _||_}
+use mathlib.Core.Bool.{Bool, cond, not, _&&_, _||_}
 use lib.Dec.{eqb, leb}
 use lib.ListN.{length, set, getD, replicate}
 use Rattle.lists.specs.Search.{placeOf, withoutFirst}
@@ -9,13 +9,12 @@ use Rattle.lists.specs.declared.Found.{Found}
 use Rattle.lists.specs.declared.Found.the-variants.{At, Nothing}
 use Rattle.days.specs.Days.{noDay, isDay, isBusinessDay, switchDate}
 use Rattle.records.specs.declared.Record.{Record}
-use Rattle.records.specs.declared.Notice.{Notice}
 use Rattle.records.specs.Notices.{tdsp}
 use Rattle.records.specs.Records.{kindScheduled, kindPermit, kindUnexecutable, kindRead, kindCancel, kindReply, moveIn, moveOut, standardSwitch, replyAccept}
 use Rattle.premise.specs.declared.Order.{Order}
 use Rattle.premise.specs.declared.File.{File}
-use Rattle.premise.specs.Orders.{mostOrders, inReview, permitPending, scheduled, cancelPending, complete, cancelled, unexecutable, hasStatus, hasKind, isOpen, isClosed, noRetailer, businessDays, calendarDays, withStatus, withScheduled, withWaited, withPending, blank, held, places, withOrders, withSupply}
-use Rattle.premise.specs.Passes.{Change, Outcome, Effect, notice, codeOrder, codeMoveOut, codeScheduled, codeCancel, codePermit, codeUnexecutable, codeReject}
+use Rattle.premise.specs.Orders.{mostOrders, inReview, permitPending, scheduled, cancelPending, complete, cancelled, unexecutable, hasStatus, hasKind, isOpen, isClosed, noRetailer, businessDays, calendarDays, withStatus, withScheduled, withWaited, withPending, blank, held, withOrders, withSupply}
+use Rattle.premise.specs.Passes.{Change, Effect, notice, codeOrder, codeMoveOut, codeScheduled, codeCancel, codePermit, codeUnexecutable, codeReject}
 
 -- whether a record is of a kind
 abbrev pub is : ℕ → Record → Bool

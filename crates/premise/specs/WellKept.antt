@@ -1,8 +1,8 @@
 -- Document 01, "The book": well kept, for one file. A test, and the facts behind it; proofs/KeptFiles.antt has the law between the two.
-use Prim.Native.Nat.{ℕ, _≤_, _<_}
+use Prim.Native.Nat.{_≤_}
 use mathlib.Core.Path.{_≡_}
 use mathlib.Core.List.{List, [], _∷_}
-use mathlib.Core.Bool.{Bool, true, false, cond, not, _&&_, _||_}
+use mathlib.Core.Bool.{Bool, true, cond, not, _&&_, _||_}
 use lib.Dec.{eqb, leb}
 use lib.ListN.{length, drop}
 use Rattle.lists.specs.Search.{anyOf, allOf}
@@ -10,7 +10,7 @@ use Rattle.days.specs.Days.{noDay, isDay}
 use Rattle.records.specs.Records.{moveIn, aReference, aPremise, aRetailer, aRetailerOrNone, anOrderKind}
 use Rattle.premise.specs.declared.Order.{Order}
 use Rattle.premise.specs.declared.File.{File}
-use Rattle.premise.specs.Orders.{mostOrders, inReview, permitPending, scheduled, cancelPending, complete, unexecutable, hasStatus, hasKind, held, places, blank}
+use Rattle.premise.specs.Orders.{mostOrders, inReview, permitPending, scheduled, cancelPending, complete, unexecutable, hasStatus, hasKind, held, places}
 use Rattle.premise.specs.Clock.{mostWaited, mostPending}
 
 -- SD none in statuses 1 and 2 and a day in 3 and 5; in the others a day or none.

@@ -3,9 +3,6 @@
 ghost use mathlib.Core.Path.{_≡_};
 ghost use Rattle.tape_reader.specs.Counts.{counted, Within};
 
-// How many records a tape holds at most: its first 65,520 bytes are played, 24 a record.
-pub const MOST_RECORDS: usize = 2_730;
-
 // The reader: the place of the last record that was played, from 1, or 0 before the first.
 pub struct Reader {
     pub place: usize,

@@ -11,9 +11,6 @@ use Rattle.days.specs.Window.{businessDays, inWindow}
 use Rattle.days.proofs.Laws.{count-end, count-here, count-next}
 use Rattle.day_window.proofs.in_window.Statement.{statement}
 use Rattle.day_window.proofs.in_window.Tie as tie
-use Rattle.day_window.proofs.in_window.Reads as reads
-use Rattle.day_window.proofs.in_window.Lts as lts
-use Rattle.days.proofs.is_business_day.Reads as is-business-day-reads
 
 abbrev Inv-loop : tie.InvT-loop
 Inv-loop calendar width today scheduled left₀ day₀ left day = left + businessDays calendar today scheduled ≡ width + businessDays calendar day scheduled

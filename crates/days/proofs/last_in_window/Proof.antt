@@ -8,9 +8,6 @@ use Rattle.days.specs.Days.{lastDay}
 use Rattle.days.proofs.LastInWindow.{Passing, passing-first, passing-business, passing-other, ends-here, ends-last}
 use Rattle.days.proofs.last_in_window.Statement.{statement}
 use Rattle.days.proofs.last_in_window.Tie as tie
-use Rattle.days.proofs.last_in_window.Reads as reads
-use Rattle.days.proofs.last_in_window.Lts as lts
-use Rattle.days.proofs.is_business_day.Reads as is-business-day-reads
 
 abbrev Inv-loop : tie.InvT-loop
 Inv-loop calendar width today left₀ day₀ left day = Passing calendar width today left day

@@ -3,10 +3,6 @@ use Prim.Native.Nat.{_-_}
 use borrow.Author.Needs.{needs}
 use Rattle.stored_tapes.proofs.main.Statement.{statement}
 use Rattle.stored_tapes.proofs.main.Tie as tie
-use Rattle.stored_tapes.proofs.main.Reads as reads
-use Rattle.stored_tapes.proofs.main.Lts as lts
-use Rattle.os.proofs.arg_count.Reads as arg-count-reads
-use Rattle.stored_tapes.proofs.play_stored.Reads as play-stored-reads
 
 abbrev Inv-loop : tie.InvT-loop
 Inv-loop count i₀ i = Unit {0}

@@ -17,7 +17,8 @@ use Rattle.premise.specs.OnePremise.{followed, marked}
 use Rattle.premise.specs.WellKept.{Tidy}
 use Rattle.premise.proofs.Places.{with-held}
 use Rattle.premise_settle.proofs.Cases.{settle-same}
-use Rattle.premise_displace.proofs.Cases.{drop-same, lapse-same}
+use Rattle.premise_displace.proofs.Cases.{drop-same}
+use Rattle.premise_lapse.proofs.Cases.{lapse-same}
 use Rattle.premise_tell.proofs.Cases.{tell-same}
 use Rattle.premise_clock.specs.Moves.{moves}
 use Rattle.premise_clock.proofs.Moves.{tick-still}

@@ -13,7 +13,8 @@ use Rattle.premise.specs.Orders.{permitPending, scheduled, hasStatus, hasKind, 
 use Rattle.premise.specs.Evaluation.{overtaken}
 use Rattle.premise_changes.specs.Parts.{isStanding}
 use Rattle.premise_settle.specs.Rivals.{keptOn}
-use Rattle.premise_displace.specs.Others.{switchOn, overtakes}
+use Rattle.premise_displace.specs.Others.{switchOn}
+use Rattle.premise_lapse.specs.Others.{overtakes}
 use Rattle.premise_stirs.specs.Stirs.{givesWay, displacedBy, dueBy, mayStir}
 
 -- three tests of which the second fails

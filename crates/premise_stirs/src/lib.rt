@@ -39,7 +39,7 @@ pub fn is_stirring(today: u16, file: File, i: usize, o: Order) -> bool
     ensures { λ r. ⌜ r ≡ stirs today (o .scheduled) (held file) i o ⌝ }
 {
     if o.status == premise::PERMIT_PENDING {
-        return premise_displace::is_overtaken(today, file, o);
+        return premise_lapse::is_overtaken(today, file, o);
     }
     if is_due(o) {
         return true;

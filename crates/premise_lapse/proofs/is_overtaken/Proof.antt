@@ -1,10 +1,10 @@
--- `premise_displace::is_overtaken` meets its contract: at each return the tests that led there pick the case of `overtaken`. Assumes nothing.
+-- `premise_lapse::is_overtaken` meets its contract: at each return the tests that led there pick the case of `overtaken`. Assumes nothing.
 use mathlib.Core.Path.{_∙_}
 use borrow.Author.Needs.{needs}
 use Rattle.premise.specs.Orders.{held}
-use Rattle.premise_displace.proofs.Cases.{overtaken-other, overtaken-idle, overtaken-any}
-use Rattle.premise_displace.proofs.is_overtaken.Statement.{statement}
-use Rattle.premise_displace.proofs.is_overtaken.Tie as tie
+use Rattle.premise_lapse.proofs.Cases.{overtaken-other, overtaken-idle, overtaken-any}
+use Rattle.premise_lapse.proofs.is_overtaken.Statement.{statement}
+use Rattle.premise_lapse.proofs.is_overtaken.Tie as tie
 
 returns : tie.Need-returns
 returns c =

@@ -1,7 +1,7 @@
--- `premise_displace::is_overtaking` meets its contract: at each return the tests that led there pick the case of `overtakes`. Assumes nothing.
-use Rattle.premise_displace.proofs.Cases.{overtakes-other, overtakes-idle, overtakes-later, overtakes-by-request}
-use Rattle.premise_displace.proofs.is_overtaking.Statement.{statement}
-use Rattle.premise_displace.proofs.is_overtaking.Tie as tie
+-- `premise_lapse::is_overtaking` meets its contract: at each return the tests that led there pick the case of `overtakes`. Assumes nothing.
+use Rattle.premise_lapse.proofs.Cases.{overtakes-other, overtakes-idle, overtakes-later, overtakes-by-request}
+use Rattle.premise_lapse.proofs.is_overtaking.Statement.{statement}
+use Rattle.premise_lapse.proofs.is_overtaking.Tie as tie
 
 returns : tie.Need-returns
 returns c =

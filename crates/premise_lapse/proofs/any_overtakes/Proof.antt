@@ -1,4 +1,4 @@
--- `premise_displace::any_overtakes` meets its contract. The loop's invariant: the search from the place reached on gives what the whole search gives.
+-- `premise_lapse::any_overtakes` meets its contract. The loop's invariant: the search from the place reached on gives what the whole search gives.
 -- The measure is the places left. Assumes nothing.
 use Prim.Native.Nat.{_≤_, _-_}
 use mathlib.Core.Path.{_≡_, sym, _∙_}
@@ -7,10 +7,10 @@ use lib.ListN.{drop}
 use Rattle.lists.specs.Search.{anyOf}
 use Rattle.lists.proofs.Find.{any-hit, any-next, any-end}
 use Rattle.premise.specs.Orders.{held}
-use Rattle.premise_displace.specs.Others.{overtakes}
+use Rattle.premise_lapse.specs.Others.{overtakes}
 use Rattle.premise.proofs.Places.{first-held, none-held}
-use Rattle.premise_displace.proofs.any_overtakes.Statement.{statement}
-use Rattle.premise_displace.proofs.any_overtakes.Tie as tie
+use Rattle.premise_lapse.proofs.any_overtakes.Statement.{statement}
+use Rattle.premise_lapse.proofs.any_overtakes.Tie as tie
 
 abbrev Inv-loop : tie.InvT-loop
 Inv-loop today requested file n i₀ i = (i ≤ n) × (anyOf (overtakes today requested) (drop i (held file)) ≡ anyOf (overtakes today requested) (held file))

@@ -1,11 +1,11 @@
--- `premise_displace::lapse` meets its contract: whether the order is overtaken picks the case of `lapsed`. Assumes nothing.
+-- `premise_lapse::lapse` meets its contract: whether the order is overtaken picks the case of `lapsed`. Assumes nothing.
 use mathlib.Core.Path.{sym, _∙_}
 use borrow.Author.Needs.{needs}
 use Rattle.premise.specs.Orders.{held}
-use Rattle.premise_displace.proofs.Cases.{lapse-same, lapse-cancels}
+use Rattle.premise_lapse.proofs.Cases.{lapse-same, lapse-cancels}
 use Rattle.premise_changes.proofs.Done.{room-case, done-case, done-none}
-use Rattle.premise_displace.proofs.lapse.Statement.{statement}
-use Rattle.premise_displace.proofs.lapse.Tie as tie
+use Rattle.premise_lapse.proofs.lapse.Statement.{statement}
+use Rattle.premise_lapse.proofs.lapse.Tie as tie
 
 is-overtaken-requires : tie.Need-is-overtaken-requires
 is-overtaken-requires c κs = search needs

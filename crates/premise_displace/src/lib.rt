@@ -14,7 +14,7 @@ use premise::Stepped;
 fn is_switch_on(day: u16, o: Order) -> bool
     ensures { λ r. ⌜ r ≡ switchOn day o ⌝ }
 {
-    if !premise_changes::is_switch(o) {
+    if !premise_order_tests::is_switch(o) {
         return false;
     }
     if o.status != premise::SCHEDULED {
@@ -51,7 +51,7 @@ fn is_displaced(calendar: &[u8], today: u16, file: File, o: Order) -> bool
     if o.status != premise::SCHEDULED {
         return false;
     }
-    if !premise_changes::is_near(calendar, today, o) {
+    if !premise_order_tests::is_near(calendar, today, o) {
         return false;
     }
     any_switch_on(file, o.scheduled)

@@ -14,7 +14,8 @@ use Rattle.premise.specs.declared.Order.{Order}
 use Rattle.premise.specs.Orders.{scheduled, hasStatus, isSwitch}
 use Rattle.premise.specs.Passes.{same}
 use Rattle.premise.specs.Evaluation.{near, contends, contendsFor, kept, settled}
-use Rattle.premise_changes.specs.Parts.{cancelling, isStanding}
+use Rattle.premise_order_tests.specs.Standing.{isStanding}
+use Rattle.premise_changes.specs.Parts.{cancelling}
 use Rattle.premise_settle.specs.Rivals.{rival, keptOn}
 
 -- two tests that agree on every order find the same place

@@ -7,7 +7,7 @@ use Rattle.lists.specs.Search.{placeOf, orElse}
 use Rattle.lists.specs.declared.Found.{Found}
 use Rattle.premise.specs.declared.Order.{Order}
 use Rattle.premise.specs.Orders.{scheduled, hasStatus, isSwitch}
-use Rattle.premise_changes.specs.Parts.{isStanding}
+use Rattle.premise_order_tests.specs.Standing.{isStanding}
 
 -- A switch for a day, Scheduled or Cancel Pending; with true, a Scheduled one. Of those of one day all are in window or none.
 abbrev pub rival : ℕ → Bool → Order → Bool

@@ -16,23 +16,23 @@ use premise::Stepped;
 fn is_contender(calendar: &[u8], today: u16, o: Order) -> bool
     ensures { λ r. ⌜ r ≡ contends (now (calendar .entry)) today o ⌝ }
 {
-    if !premise_changes::is_switch(o) {
+    if !premise_order_tests::is_switch(o) {
         return false;
     }
-    if !premise_changes::is_standing(o) {
+    if !premise_order_tests::is_standing(o) {
         return false;
     }
-    premise_changes::is_near(calendar, today, o)
+    premise_order_tests::is_near(calendar, today, o)
 }
 
 // Whether an order is a switch that contends for a day which is in window; with `only`, a Scheduled one.
 fn is_rival(day: u16, only: bool, o: Order) -> bool
     ensures { λ r. ⌜ r ≡ rival day only o ⌝ }
 {
-    if !premise_changes::is_switch(o) {
+    if !premise_order_tests::is_switch(o) {
         return false;
     }
-    if !premise_changes::is_standing(o) {
+    if !premise_order_tests::is_standing(o) {
         return false;
     }
     if o.scheduled != day {

@@ -1,7 +1,7 @@
--- `premise_changes::is_near` meets its contract: it is what `in_window` ensures for the order's scheduled day. Assumes nothing.
+-- `premise_order_tests::is_near` meets its contract: it is what `in_window` ensures for the order's scheduled day. Assumes nothing.
 use borrow.Author.Needs.{needs}
-use Rattle.premise_changes.proofs.is_near.Statement.{statement}
-use Rattle.premise_changes.proofs.is_near.Tie as tie
+use Rattle.premise_order_tests.proofs.is_near.Statement.{statement}
+use Rattle.premise_order_tests.proofs.is_near.Tie as tie
 
 in-window-requires : tie.Need-in-window-requires
 in-window-requires c κs = search needs

@@ -5,7 +5,7 @@ use borrow.Author.Tests.{eq-eqb, ne-eqb}
 use Rattle.records.specs.Records.{standardSwitch, selfSelectedSwitch}
 use Rattle.premise.specs.declared.Order.{Order}
 use Rattle.premise.specs.Orders.{scheduled, cancelPending, hasStatus, hasKind, isSwitch}
-use Rattle.premise_changes.specs.Parts.{isStanding}
+use Rattle.premise_order_tests.specs.Standing.{isStanding}
 
 module _ (o : Order) where
   pub switch-standard : o .kind ≡ standardSwitch → true ≡ isSwitch o

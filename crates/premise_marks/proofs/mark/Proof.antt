@@ -1,4 +1,4 @@
--- `premise_passes::mark` meets its contract: the clock, and then the evaluation on what the clock left. Assumes nothing.
+-- `premise_marks::mark` meets its contract: the clock, and then the evaluation on what the clock left. Assumes nothing.
 use Prim.Native.Nat.{ℕ}
 use borrow.Author.Needs.{needs}
 use Rattle.days.specs.Days.{isBusinessDay}
@@ -7,9 +7,9 @@ use Rattle.premise.specs.Passes.{onFile}
 use Rattle.premise.specs.Clock.{ticked, clock}
 use Rattle.premise.specs.Evaluation.{evaluated}
 use Rattle.premise.specs.OnePremise.{marked}
 use Rattle.premise_passes.proofs.Then.{then-first, then-room, then-done, pass-tidy}
-use Rattle.premise_passes.proofs.mark.Statement.{statement}
-use Rattle.premise_passes.proofs.mark.Tie as tie
+use Rattle.premise_marks.proofs.mark.Statement.{statement}
+use Rattle.premise_marks.proofs.mark.Tie as tie
 
 wind-requires : tie.Need-wind-requires
 unfolding marked

@@ -48,7 +48,7 @@ pub fn is_stirring(today: u16, file: File, i: usize, o: Order) -> bool
         if !premise_order_tests::is_standing(o) {
             return false;
         }
-        return premise_settle::kept_elsewhere(file, o.scheduled, i);
+        return premise_rivals::kept_elsewhere(file, o.scheduled, i);
     }
     if o.kind != records::order_kind::MASS_TRANSITION_DROP {
         return false;

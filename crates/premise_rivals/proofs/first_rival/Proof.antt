@@ -1,4 +1,4 @@
--- `premise_settle::first_rival` meets its contract. The loop's invariant: the search from the place reached on gives what the whole search gives.
+-- `premise_rivals::first_rival` meets its contract. The loop's invariant: the search from the place reached on gives what the whole search gives.
 -- The measure is the places left. Assumes nothing.
 use Prim.Native.Nat.{_≤_, _-_}
 use mathlib.Core.Path.{_≡_, sym, _∙_}
@@ -7,10 +7,10 @@ use lib.ListN.{drop}
 use Rattle.lists.specs.Search.{placeFrom, placeOf}
 use Rattle.lists.proofs.Find.{place-hit, place-next, place-end}
 use Rattle.premise.specs.Orders.{held}
-use Rattle.premise_settle.specs.Rivals.{rival}
+use Rattle.premise_rivals.specs.Rivals.{rival}
 use Rattle.premise.proofs.Places.{first-held, none-held}
-use Rattle.premise_settle.proofs.first_rival.Statement.{statement}
-use Rattle.premise_settle.proofs.first_rival.Tie as tie
+use Rattle.premise_rivals.proofs.first_rival.Statement.{statement}
+use Rattle.premise_rivals.proofs.first_rival.Tie as tie
 
 abbrev Inv-loop : tie.InvT-loop
 Inv-loop day only file n i₀ i = (i ≤ n) × (placeFrom (rival day only) i (drop i (held file)) ≡ placeOf (rival day only) (held file))

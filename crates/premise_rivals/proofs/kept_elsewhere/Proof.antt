@@ -1,10 +1,10 @@
--- `premise_settle::kept_elsewhere` meets its contract: what the search finds is held against the place. Assumes nothing.
+-- `premise_rivals::kept_elsewhere` meets its contract: what the search finds is held against the place. Assumes nothing.
 use mathlib.Core.Path.{sym, _∙_}
 use borrow.Author.Needs.{needs}
 use Rattle.premise.specs.Orders.{held}
-use Rattle.premise_settle.proofs.Cases.{kept-found}
-use Rattle.premise_settle.proofs.kept_elsewhere.Statement.{statement}
-use Rattle.premise_settle.proofs.kept_elsewhere.Tie as tie
+use Rattle.premise_rivals.proofs.Cases.{kept-found}
+use Rattle.premise_rivals.proofs.kept_elsewhere.Statement.{statement}
+use Rattle.premise_rivals.proofs.kept_elsewhere.Tie as tie
 
 kept-place-requires : tie.Need-kept-place-requires
 kept-place-requires c κs = search needs

@@ -1,10 +1,10 @@
--- `premise_settle::kept_place` meets its contract: what the first search finds picks the case of `orElse`. Assumes nothing.
+-- `premise_rivals::kept_place` meets its contract: what the first search finds picks the case of `orElse`. Assumes nothing.
 use mathlib.Core.Path.{sym, _∙_}
 use borrow.Author.Needs.{needs}
 use Rattle.premise.specs.Orders.{held}
-use Rattle.premise_settle.proofs.Cases.{kept-first, kept-other}
-use Rattle.premise_settle.proofs.kept_place.Statement.{statement}
-use Rattle.premise_settle.proofs.kept_place.Tie as tie
+use Rattle.premise_rivals.proofs.Cases.{kept-first, kept-other}
+use Rattle.premise_rivals.proofs.kept_place.Statement.{statement}
+use Rattle.premise_rivals.proofs.kept_place.Tie as tie
 
 first-rival-requires : tie.Need-first-rival-requires
 first-rival-requires c κs = search needs

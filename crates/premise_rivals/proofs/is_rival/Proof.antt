@@ -1,10 +1,10 @@
--- `premise_settle::is_rival` meets its contract: at each return the tests that led there pick the case of `rival`. Assumes nothing.
+-- `premise_rivals::is_rival` meets its contract: at each return the tests that led there pick the case of `rival`. Assumes nothing.
 use mathlib.Core.Path.{sym, _∙_}
 use borrow.Author.Needs.{needs}
 use borrow.Author.Tests.{not-true, not-false}
-use Rattle.premise_settle.proofs.Cases.{rival-other, rival-closed, rival-elsewhere, rival-only, rival-any}
-use Rattle.premise_settle.proofs.is_rival.Statement.{statement}
-use Rattle.premise_settle.proofs.is_rival.Tie as tie
+use Rattle.premise_rivals.proofs.Cases.{rival-other, rival-closed, rival-elsewhere, rival-only, rival-any}
+use Rattle.premise_rivals.proofs.is_rival.Statement.{statement}
+use Rattle.premise_rivals.proofs.is_rival.Tie as tie
 
 is-switch-requires : tie.Need-is-switch-requires
 is-switch-requires c κs = search needs

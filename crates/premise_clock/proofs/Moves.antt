@@ -9,8 +9,8 @@ use Rattle.premise.specs.declared.Order.{Order}
 use Rattle.premise.specs.Orders.{inReview, permitPending, cancelPending, hasStatus}
 use Rattle.premise.specs.Passes.{same}
 use Rattle.premise.specs.Clock.{mostWaited, grown, reviewed, permitAwaited, cancelAwaited, ticked}
-use Rattle.premise_waited.specs.Review.{reviewEnds}
-use Rattle.premise_waited.proofs.Cases.{review-goes-on, permit-goes-on}
+use Rattle.premise_wait_counts.specs.Review.{reviewEnds}
+use Rattle.premise_wait_counts.proofs.Waits.{review-goes-on, permit-goes-on}
 use Rattle.premise_clock.specs.Moves.{moves}
 
 module _ (business : Bool) (today : ℕ) (o : Order) where

@@ -64,13 +64,13 @@ pub fn is_moving(business: bool, today: u16, o: Order) -> bool
             return true;
         }
         let waited = o.waited;
-        return premise_waited::review_ends(waited, o.requested, today);
+        return premise_wait_counts::review_ends(waited, o.requested, today);
     }
     if o.status == premise::PERMIT_PENDING {
         if o.waited.0 == premise::MOST_WAITED {
             return true;
         }
-        return premise_waited::counts(business, o.requested, today);
+        return premise_wait_counts::counts(business, o.requested, today);
     }
     o.status == premise::CANCEL_PENDING
 }

@@ -1,7 +1,7 @@
--- `premise_waited::review_ends` meets its contract: each test picks a case of `reviewEnds`. Assumes nothing.
-use Rattle.premise_waited.proofs.Cases.{ends-late, ends-not-yet, ends-by-day}
-use Rattle.premise_waited.proofs.review_ends.Statement.{statement}
-use Rattle.premise_waited.proofs.review_ends.Tie as tie
+-- `premise_wait_counts::review_ends` meets its contract: each test picks a case of `reviewEnds`. Assumes nothing.
+use Rattle.premise_wait_counts.proofs.Cases.{ends-late, ends-not-yet, ends-by-day}
+use Rattle.premise_wait_counts.proofs.review_ends.Statement.{statement}
+use Rattle.premise_wait_counts.proofs.review_ends.Tie as tie
 
 returns : tie.Need-returns
 returns c =

@@ -1,7 +1,7 @@
--- `premise_waited::counts` meets its contract: each test picks a case of `&&`. Assumes nothing.
-use Rattle.premise_waited.proofs.Cases.{counts-by-day, counts-never}
-use Rattle.premise_waited.proofs.counts.Statement.{statement}
-use Rattle.premise_waited.proofs.counts.Tie as tie
+-- `premise_wait_counts::counts` meets its contract: each test picks a case of `&&`. Assumes nothing.
+use Rattle.premise_wait_counts.proofs.Cases.{counts-by-day, counts-never}
+use Rattle.premise_wait_counts.proofs.counts.Statement.{statement}
+use Rattle.premise_wait_counts.proofs.counts.Tie as tie
 
 returns : tie.Need-returns
 returns c =

@@ -1,12 +1,12 @@
--- `premise_waited::grow` meets its contract: below 21 one more is the lesser of the two, else 21 is. Assumes nothing.
+-- `premise_wait_counts::grow` meets its contract: below 21 one more is the lesser of the two, else 21 is. Assumes nothing.
 use Prim.Native.Nat.{_+_, min}
 use mathlib.Core.Path.{_≡_, sym, ap, _∙_}
 use mathlib.Core.Bool.{Bool, cond}
 use native.Mathlib.Omega.{arith}
 use borrow.Author.Needs.{needs}
 use Rattle.premise.specs.Clock.{mostWaited}
-use Rattle.premise_waited.proofs.grow.Statement.{statement}
-use Rattle.premise_waited.proofs.grow.Tie as tie
+use Rattle.premise_wait_counts.proofs.grow.Statement.{statement}
+use Rattle.premise_wait_counts.proofs.grow.Tie as tie
 
 add-t5 : tie.Need-add-t5
 add-t5 c = search needs

@@ -24,7 +24,7 @@ fn wind(calendar: &[u8], today: u16, file: File, standing: usize, buffer: &mut [
         let o = file.orders[i];
         let at = i;
         i += 1;
-        if premise_clock::is_moving(business, today, o) {
+        if premise_moves::is_moving(business, today, o) {
             let s = premise_clock::tick(business, today, file.premise, o, sent, buffer);
             let t = s.order;
             out.orders[at] = t;

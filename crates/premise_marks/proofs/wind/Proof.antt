@@ -9,7 +9,7 @@ use Rattle.premise.specs.Orders.{held}
 use Rattle.premise.specs.Passes.{Change, pass, onFile}
 use Rattle.premise.specs.Clock.{ticked}
 use Rattle.premise.specs.Promises.{Room, DoneToFile}
-use Rattle.premise_clock.proofs.Moves.{tick-still}
+use Rattle.premise_moves.proofs.Moves.{tick-still}
 use Rattle.premise_run.proofs.Turns.{Sofar, sofar-none, sofar-length, sofar-room, sofar-turn, sofar-leaves, sofar-all}
 use Rattle.premise_marks.proofs.wind.Statement.{statement}
 use Rattle.premise_marks.proofs.wind.Tie as tie

@@ -1,9 +1,9 @@
--- `premise_clock::is_moving` meets its contract: at each return the tests that led there pick the case of `moves`. Assumes nothing.
+-- `premise_moves::is_moving` meets its contract: at each return the tests that led there pick the case of `moves`. Assumes nothing.
 use mathlib.Core.Path.{_∙_}
 use borrow.Author.Needs.{needs}
-use Rattle.premise_clock.proofs.Moves.{moves-business, moves-ends, moves-waited, moves-counts, moves-cancel}
-use Rattle.premise_clock.proofs.is_moving.Statement.{statement}
-use Rattle.premise_clock.proofs.is_moving.Tie as tie
+use Rattle.premise_moves.proofs.Moves.{moves-business, moves-ends, moves-waited, moves-counts, moves-cancel}
+use Rattle.premise_moves.proofs.is_moving.Statement.{statement}
+use Rattle.premise_moves.proofs.is_moving.Tie as tie
 
 returns : tie.Need-returns
 returns c = moves-business _ _ _ (c .before .if1 .taken) (c .if2 .taken)

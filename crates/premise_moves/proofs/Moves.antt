@@ -11,7 +11,7 @@ use Rattle.premise.specs.Passes.{same}
 use Rattle.premise.specs.Clock.{mostWaited, grown, reviewed, permitAwaited, cancelAwaited, ticked}
 use Rattle.premise_wait_counts.specs.Review.{reviewEnds}
 use Rattle.premise_wait_counts.proofs.Waits.{review-goes-on, permit-goes-on}
-use Rattle.premise_clock.specs.Moves.{moves}
+use Rattle.premise_moves.specs.Moves.{moves}
 
 module _ (business : Bool) (today : ℕ) (o : Order) where
   module _ (review : o .status ≡ inReview) where

@@ -39,7 +39,7 @@ fn mark(calendar: &[u8], day: u16, b: Book, buffer: &mut [u8]) -> Marked
         let at = place;
         place += 1;
         if premise_quiet::is_touched(business, day, last, f) {
-            let p = premise_passes::mark(calendar, day, last, f, sent, buffer);
+            let p = premise_marks::mark(calendar, day, last, f, sent, buffer);
             let g = p.file;
             c.files[at] = g;
             sent = p.sent;

@@ -1,12 +1,11 @@
-// The premise layer, inner: what the clock and several passes of the evaluation do to an order and ask of it. The notices go behind
-// those that stand in the buffer.
+// The premise layer, inner: what the clock and several passes of the evaluation do to an order. The notices go behind those that stand
+// in the buffer.
 ghost use mathlib.Core.Path.{_≡_};
 ghost use mathlib.Core.List.{[], _∷_};
-ghost use Rattle.premise.specs.Orders.{isSwitch};
 ghost use Rattle.premise.specs.Passes.{notice, codeCancel};
-ghost use Rattle.premise.specs.Evaluation.{near, asCancelled};
+ghost use Rattle.premise.specs.Evaluation.{asCancelled};
 ghost use Rattle.premise.specs.Promises.{Room, Writes, DoneToOrder};
-ghost use Rattle.premise_changes.specs.Parts.{cancelling, isStanding};
+ghost use Rattle.premise_changes.specs.Parts.{cancelling};
 use premise::CalendarDays;
 use premise::Order;
 use premise::Stepped;
@@ -49,31 +48,4 @@ pub fn cancel(premise: u64, addressee: u32, o: Order, standing: usize, buffer: &
         order: t,
         sent: second,
     }
-}
-
-// Whether an order's scheduled day is in window.
-pub fn is_near(calendar: &[u8], today: u16, o: Order) -> bool
-    ensures { λ r. ⌜ r ≡ near (now (calendar .entry)) today o ⌝ }
-{
-    day_window::in_window(calendar, days::WINDOW_WIDTH, today, o.scheduled)
-}
-
-// Whether an order is a switch, standard or self-selected.
-pub fn is_switch(o: Order) -> bool
-    ensures { λ r. ⌜ r ≡ isSwitch o ⌝ }
-{
-    if o.kind == records::order_kind::STANDARD_SWITCH {
-        return true;
-    }
-    o.kind == records::order_kind::SELF_SELECTED_SWITCH
-}
-
-// Whether an order is Scheduled or Cancel Pending.
-pub fn is_standing(o: Order) -> bool
-    ensures { λ r. ⌜ r ≡ isStanding o ⌝ }
-{
-    if o.status == premise::SCHEDULED {
-        return true;
-    }
-    o.status == premise::CANCEL_PENDING
 }

@@ -1,9 +1,6 @@
-// The premise layer, inner: what the clock does to one order, and whether it changes it. The notices go behind those that stand in the
-// buffer.
-ghost use mathlib.Core.Path.{_≡_};
+// The premise layer, inner: what the clock does to one order. The notices go behind those that stand in the buffer.
 ghost use Rattle.premise.specs.Clock.{cancelAwaited, ticked};
 ghost use Rattle.premise.specs.Promises.{Room, DoneToOrder};
-ghost use Rattle.premise_clock.specs.Moves.{moves};
 use premise::CalendarDays;
 use premise::Order;
 use premise::Stepped;
@@ -53,24 +50,4 @@ pub fn tick(
         order: o,
         sent: standing,
     }
-}
-
-// Whether the clock changes an order. Most it leaves as they are, and the caller then has nothing to do.
-pub fn is_moving(business: bool, today: u16, o: Order) -> bool
-    ensures { λ r. ⌜ r ≡ moves business today o ⌝ }
-{
-    if o.status == premise::IN_REVIEW {
-        if business {
-            return true;
-        }
-        let waited = o.waited;
-        return premise_waited::review_ends(waited, o.requested, today);
-    }
-    if o.status == premise::PERMIT_PENDING {
-        if o.waited.0 == premise::MOST_WAITED {
-            return true;
-        }
-        return premise_waited::counts(business, o.requested, today);
-    }
-    o.status == premise::CANCEL_PENDING
 }

@@ -12,7 +12,7 @@ use Rattle.premise.specs.declared.File.{File}
 use Rattle.premise.specs.Orders.{blank, held}
 use Rattle.premise.specs.WellKept.{Tidy}
 use Rattle.premise.proofs.Places.{first-held, none-held}
-use Rattle.premise_clock.specs.Moves.{moves}
+use Rattle.premise_moves.specs.Moves.{moves}
 use Rattle.premise_stirs.specs.Stirs.{stirs}
 use Rattle.premise_quiet.specs.Quiet.{anyAt, touches}
 

@@ -17,10 +17,11 @@ use Rattle.premise.specs.OnePremise.{followed, marked}
 use Rattle.premise.specs.WellKept.{Tidy}
 use Rattle.premise.proofs.Places.{with-held}
 use Rattle.premise_settle.proofs.Cases.{settle-same}
-use Rattle.premise_displace.proofs.Cases.{drop-same, lapse-same}
+use Rattle.premise_displace.proofs.Cases.{drop-same}
+use Rattle.premise_lapse.proofs.Cases.{lapse-same}
 use Rattle.premise_tell.proofs.Cases.{tell-same}
-use Rattle.premise_clock.specs.Moves.{moves}
-use Rattle.premise_clock.proofs.Moves.{tick-still}
+use Rattle.premise_moves.specs.Moves.{moves}
+use Rattle.premise_moves.proofs.Moves.{tick-still}
 use Rattle.premise_stirs.specs.Stirs.{stirs}
 use Rattle.premise_stirs.proofs.Window.{let-be}
 use Rattle.premise_quiet.specs.Quiet.{anyAt, touches, UntouchedStays}

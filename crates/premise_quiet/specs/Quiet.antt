@@ -10,7 +10,7 @@ use Rattle.premise.specs.declared.File.{File}
 use Rattle.premise.specs.Orders.{held}
 use Rattle.premise.specs.OnePremise.{marked}
 use Rattle.premise.specs.WellKept.{Tidy}
-use Rattle.premise_clock.specs.Moves.{moves}
+use Rattle.premise_moves.specs.Moves.{moves}
 use Rattle.premise_stirs.specs.Stirs.{stirs}
 
 -- whether some order passes a test that goes by its place, the places counted from a number on

@@ -38,7 +38,7 @@ pub fn is_touched(business: bool, today: u16, last: u16, file: File) -> bool
         let o = file.orders[i];
         let at = i;
         i += 1;
-        if premise_clock::is_moving(business, today, o) {
+        if premise_moves::is_moving(business, today, o) {
             return true;
         }
         if premise_stirs::may_stir(last, o) {

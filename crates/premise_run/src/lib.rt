@@ -34,7 +34,7 @@ fn change(
     match which {
         Pass::Settle => premise_settle::settle(calendar, today, file, i, o, standing, buffer),
         Pass::Displace => premise_displace::displace(calendar, today, file, o, standing, buffer),
-        Pass::Lapse => premise_displace::lapse(today, file, o, standing, buffer),
+        Pass::Lapse => premise_lapse::lapse(today, file, o, standing, buffer),
         Pass::Tell => premise_tell::tell(
             calendar,
             today,

@@ -11,9 +11,10 @@ use Rattle.records.specs.Records.{moveIn, moveOut, massTransitionDrop}
 use Rattle.premise.specs.declared.Order.{Order}
 use Rattle.premise.specs.Orders.{permitPending, scheduled, hasStatus, hasKind, isSwitch}
 use Rattle.premise.specs.Evaluation.{overtaken}
-use Rattle.premise_changes.specs.Parts.{isStanding}
-use Rattle.premise_settle.specs.Rivals.{keptOn}
-use Rattle.premise_displace.specs.Others.{switchOn, overtakes}
+use Rattle.premise_order_tests.specs.Standing.{isStanding}
+use Rattle.premise_rivals.specs.Rivals.{keptOn}
+use Rattle.premise_displace.specs.Others.{switchOn}
+use Rattle.premise_lapse.specs.Others.{overtakes}
 use Rattle.premise_stirs.specs.Stirs.{givesWay, displacedBy, dueBy, mayStir}
 
 -- three tests of which the second fails

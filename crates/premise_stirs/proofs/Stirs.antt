@@ -11,8 +11,8 @@ use Rattle.records.specs.Records.{moveOut, massTransitionDrop}
 use Rattle.premise.specs.declared.Order.{Order}
 use Rattle.premise.specs.Orders.{permitPending, scheduled, cancelPending, hasStatus, hasKind, isSwitch}
 use Rattle.premise.specs.Evaluation.{overtaken}
-use Rattle.premise_changes.specs.Parts.{isStanding}
-use Rattle.premise_settle.specs.Rivals.{keptOn}
+use Rattle.premise_order_tests.specs.Standing.{isStanding}
+use Rattle.premise_rivals.specs.Rivals.{keptOn}
 use Rattle.premise_displace.specs.Others.{switchOn}
 use Rattle.premise_stirs.specs.Stirs.{givesWay, displacedBy, dueBy, stirs, mayStir}
 use Rattle.premise_stirs.proofs.Cases.{way-other, displaced-other, not-overtaken, own-day}

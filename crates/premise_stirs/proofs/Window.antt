@@ -12,9 +12,9 @@ use Rattle.records.specs.Records.{moveOut, massTransitionDrop}
 use Rattle.premise.specs.declared.Order.{Order}
 use Rattle.premise.specs.Orders.{scheduled, hasStatus, hasKind, isSwitch}
 use Rattle.premise.specs.Evaluation.{near, contends, kept, displaced, overtaken, due}
-use Rattle.premise_changes.specs.Parts.{isStanding}
-use Rattle.premise_settle.specs.Rivals.{keptOn}
-use Rattle.premise_settle.proofs.Cases.{kept-near}
+use Rattle.premise_order_tests.specs.Standing.{isStanding}
+use Rattle.premise_rivals.specs.Rivals.{keptOn}
+use Rattle.premise_rivals.proofs.Near.{kept-near}
 use Rattle.premise_displace.specs.Others.{switchOn}
 use Rattle.premise_stirs.specs.Stirs.{givesWay, displacedBy, dueBy, stirs}
 use Rattle.premise_stirs.proofs.Cases.{second-fails}

@@ -8,8 +8,8 @@ use Rattle.records.specs.Records.{moveOut, massTransitionDrop}
 use Rattle.premise.specs.declared.Order.{Order}
 use Rattle.premise.specs.Orders.{permitPending, scheduled, hasStatus, hasKind, isSwitch}
 use Rattle.premise.specs.Evaluation.{overtaken}
-use Rattle.premise_changes.specs.Parts.{isStanding}
-use Rattle.premise_settle.specs.Rivals.{keptOn}
+use Rattle.premise_order_tests.specs.Standing.{isStanding}
+use Rattle.premise_rivals.specs.Rivals.{keptOn}
 use Rattle.premise_displace.specs.Others.{switchOn}
 
 -- Pass 1 cancels the order at a place: a switch with status 3 or 4, in window, and another is kept for its day.

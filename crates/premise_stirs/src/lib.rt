@@ -14,7 +14,7 @@ pub fn may_stir(last: u16, o: Order) -> bool
     if o.status == premise::PERMIT_PENDING {
         return true;
     }
-    if !premise_changes::is_standing(o) {
+    if !premise_order_tests::is_standing(o) {
         return false;
     }
     o.scheduled <= last
@@ -39,16 +39,16 @@ pub fn is_stirring(today: u16, file: File, i: usize, o: Order) -> bool
     ensures { λ r. ⌜ r ≡ stirs today (o .scheduled) (held file) i o ⌝ }
 {
     if o.status == premise::PERMIT_PENDING {
-        return premise_displace::is_overtaken(today, file, o);
+        return premise_lapse::is_overtaken(today, file, o);
     }
     if is_due(o) {
         return true;
     }
-    if premise_changes::is_switch(o) {
-        if !premise_changes::is_standing(o) {
+    if premise_order_tests::is_switch(o) {
+        if !premise_order_tests::is_standing(o) {
             return false;
         }
-        return premise_settle::kept_elsewhere(file, o.scheduled, i);
+        return premise_rivals::kept_elsewhere(file, o.scheduled, i);
     }
     if o.kind != records::order_kind::MASS_TRANSITION_DROP {
         return false;

@@ -18,7 +18,7 @@ fn is_due(calendar: &[u8], today: u16, o: Order) -> bool
     if o.told != 0 {
         return false;
     }
-    premise_changes::is_near(calendar, today, o)
+    premise_order_tests::is_near(calendar, today, o)
 }
 
 // Pass 4 on an order.

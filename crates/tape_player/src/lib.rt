@@ -69,7 +69,7 @@ pub fn play_on(
                     let at = place;
                     place += 1;
                     if premise_quiet::is_touched(business, day, last, f) {
-                        let m = premise_passes::mark(calendar, day, last, f, sent, notices);
+                        let m = premise_marks::mark(calendar, day, last, f, sent, notices);
                         let g = m.file;
                         b.files[at] = g;
                         sent = m.sent;

@@ -4,7 +4,7 @@ use mathlib.Core.Bool.{Bool}
 use borrow.Author.Needs.{needs}
 use Rattle.premise.specs.Passes.{same}
 use Rattle.premise.specs.Clock.{grown}
-use Rattle.premise_waited.proofs.Cases.{permit-ends, permit-goes-on}
+use Rattle.premise_wait_counts.proofs.Waits.{permit-ends, permit-goes-on}
 use Rattle.premise_changes.proofs.Done.{room-case, done-case, done-none}
 use Rattle.premise_waited.proofs.await_permit.Statement.{statement}
 use Rattle.premise_waited.proofs.await_permit.Tie as tie

@@ -3,7 +3,7 @@
 use mathlib.Core.Path.{sym, ap, _∙_}
 use borrow.Author.Needs.{needs}
 use Rattle.premise.specs.Passes.{same}
-use Rattle.premise_waited.proofs.Cases.{review-ends, review-goes-on}
+use Rattle.premise_wait_counts.proofs.Waits.{review-ends, review-goes-on}
 use Rattle.premise_changes.proofs.Done.{room-case, done-case, done-none}
 use Rattle.premise_waited.proofs.review.Statement.{statement}
 use Rattle.premise_waited.proofs.review.Tie as tie

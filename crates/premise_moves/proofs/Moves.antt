@@ -1,0 +1,64 @@
+-- Which case of `moves` holds, by the tests that led there; an order that does not move is left by the clock. Assumes nothing.
+use Prim.Native.Nat.{ℕ}
+use mathlib.Core.Path.{_≡_, refl, sym, ap, _∙_}
+use mathlib.Core.Bool.{Bool, true, false, cond, _&&_, _||_, false≢true}
+use lib.Dec.{eqb, leb}
+use borrow.Author.Tests.{eq-eqb, ne-eqb}
+use Rattle.lists.proofs.TestLaws.{or-left, or-right}
+use Rattle.premise.specs.declared.Order.{Order}
+use Rattle.premise.specs.Orders.{inReview, permitPending, cancelPending, hasStatus}
+use Rattle.premise.specs.Passes.{same}
+use Rattle.premise.specs.Clock.{mostWaited, grown, reviewed, permitAwaited, cancelAwaited, ticked}
+use Rattle.premise_wait_counts.specs.Review.{reviewEnds}
+use Rattle.premise_wait_counts.proofs.Waits.{review-goes-on, permit-goes-on}
+use Rattle.premise_moves.specs.Moves.{moves}
+
+module _ (business : Bool) (today : ℕ) (o : Order) where
+  module _ (review : o .status ≡ inReview) where
+    pub moves-business : business ≡ true → true ≡ moves business today o
+    unfolding moves
+    moves-business b = simp (eq-eqb (o .status) inReview review, b)
+
+    pub moves-ends : business ≡ false → reviewEnds (o .waited .0) (o .requested) today ≡ moves business today o
+    unfolding moves
+    moves-ends b = simp (eq-eqb (o .status) inReview review, b)
+
+  module _ (review : o .status ≡ inReview → ⊥) where
+    module _ (permit : o .status ≡ permitPending) where
+      pub moves-waited : o .waited .0 ≡ mostWaited → true ≡ moves business today o
+      unfolding moves
+      moves-waited w = simp (ne-eqb (o .status) inReview review, eq-eqb (o .status) permitPending permit, eq-eqb (o .waited .0) mostWaited w)
+
+      pub moves-counts : (o .waited .0 ≡ mostWaited → ⊥) → (business && leb (o .requested) today) ≡ moves business today o
+      unfolding moves
+      moves-counts w = simp (ne-eqb (o .status) inReview review, eq-eqb (o .status) permitPending permit, ne-eqb (o .waited .0) mostWaited w)
+
+    pub moves-cancel : (o .status ≡ permitPending → ⊥) → hasStatus cancelPending o ≡ moves business today o
+    unfolding moves
+    moves-cancel permit = simp (ne-eqb (o .status) inReview review, ne-eqb (o .status) permitPending permit)
+
+  module _ (premise : ℕ) where
+    review-still : (business || reviewEnds (o .waited .0) (o .requested) today) ≡ false → reviewed business today premise o ≡ same o
+    review-still e =
+        let ends = reviewEnds (o .waited .0) (o .requested) today in
+        review-goes-on business today premise o (o .waited .0) (sym (ap (λ (b : Bool). grown b o) (or-left business ends e))) (or-right business ends e)
+
+    permit-still : (eqb (o .waited .0) mostWaited || business && leb (o .requested) today) ≡ false → permitAwaited business today premise o ≡ same o
+    permit-still e =
+        let all = eqb (o .waited .0) mostWaited in
+        let counts = business && leb (o .requested) today in
+        permit-goes-on business today premise o (o .waited .0) (sym (ap (λ (b : Bool). grown b o) (or-right all counts e)))
+        (λ w. false≢true (sym (or-left all counts e) ∙ eq-eqb (o .waited .0) mostWaited w))
+
+    -- the clock leaves an order that does not move
+    pub tick-still : moves business today o ≡ false → ticked business today premise o ≡ same o
+    unfolding moves ticked
+    tick-still = go (hasStatus inReview o) (hasStatus permitPending o) (hasStatus cancelPending o)
+      where
+        go : (r p c : Bool)
+            → cond r (business || reviewEnds (o .waited .0) (o .requested) today) (cond p (eqb (o .waited .0) mostWaited || business && leb (o .requested) today) c) ≡ false
+            → cond r (reviewed business today premise o) (cond p (permitAwaited business today premise o) (cond c (cancelAwaited premise o) (same o))) ≡ same o
+        go true p c e = review-still e
+        go false true c e = permit-still e
+        go false false true e = absurd (false≢true (sym e))
+        go false false false e = refl

@@ -1,0 +1,24 @@
+// The premise layer, inner: whether the clock changes an order.
+ghost use mathlib.Core.Path.{_≡_};
+ghost use Rattle.premise_moves.specs.Moves.{moves};
+use premise::Order;
+
+// Whether the clock changes an order. Most it leaves as they are, and the caller then has nothing to do.
+pub fn is_moving(business: bool, today: u16, o: Order) -> bool
+    ensures { λ r. ⌜ r ≡ moves business today o ⌝ }
+{
+    if o.status == premise::IN_REVIEW {
+        if business {
+            return true;
+        }
+        let waited = o.waited;
+        return premise_wait_counts::review_ends(waited, o.requested, today);
+    }
+    if o.status == premise::PERMIT_PENDING {
+        if o.waited.0 == premise::MOST_WAITED {
+            return true;
+        }
+        return premise_wait_counts::counts(business, o.requested, today);
+    }
+    o.status == premise::CANCEL_PENDING
+}

@@ -1,0 +1,21 @@
+-- Which case of a test on an order holds, by the tests that led there. Assumes nothing.
+use mathlib.Core.Path.{_≡_}
+use mathlib.Core.Bool.{true}
+use borrow.Author.Tests.{eq-eqb, ne-eqb}
+use Rattle.records.specs.Records.{standardSwitch, selfSelectedSwitch}
+use Rattle.premise.specs.declared.Order.{Order}
+use Rattle.premise.specs.Orders.{scheduled, cancelPending, hasStatus, hasKind, isSwitch}
+use Rattle.premise_order_tests.specs.Standing.{isStanding}
+
+module _ (o : Order) where
+  pub switch-standard : o .kind ≡ standardSwitch → true ≡ isSwitch o
+  switch-standard e = simp (eq-eqb (o .kind) standardSwitch e)
+
+  pub switch-selected : (o .kind ≡ standardSwitch → ⊥) → hasKind selfSelectedSwitch o ≡ isSwitch o
+  switch-selected d = simp (ne-eqb (o .kind) standardSwitch d)
+
+  pub standing-scheduled : o .status ≡ scheduled → true ≡ isStanding o
+  standing-scheduled e = simp (eq-eqb (o .status) scheduled e)
+
+  pub standing-pending : (o .status ≡ scheduled → ⊥) → hasStatus cancelPending o ≡ isStanding o
+  standing-pending d = simp (ne-eqb (o .status) scheduled d)

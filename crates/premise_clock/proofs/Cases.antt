@@ -1,9 +1,9 @@
 -- Which case of the clock's definitions holds, by the tests that led there. Assumes nothing.
-use Prim.Native.Nat.{ℕ, _+_, _<_, _≤_}
-use mathlib.Core.Path.{_≡_}
-use mathlib.Core.Bool.{Bool}
-use native.Mathlib.Omega.{arith}
-use borrow.Author.Tests.{eq-eqb, ne-eqb, le-leb, lt-leb}
+use Prim.Native.Nat.{ℕ, _+_}
+use mathlib.Core.Path.{_≡_, refl}
+use mathlib.Core.Bool.{Bool, true, false}
+use lib.Dec.{leb}
+use borrow.Author.Tests.{eq-eqb, ne-eqb}
 use Rattle.premise.specs.declared.Order.{Order}
 use Rattle.premise.specs.Orders.{inReview, permitPending, cancelPending, withPending}
 use Rattle.premise.specs.Passes.{same}
@@ -28,10 +28,10 @@ module _ (business : Bool) (today premise : ℕ) (o : Order) where
   tick-same d h e = simp (ne-eqb (o .status) inReview d, ne-eqb (o .status) permitPending h, ne-eqb (o .status) cancelPending e)
 
 module _ (premise : ℕ) (o : Order) where
-  pub cancel-ends : 6 ≤ o .pending .0 → cancelAwaited premise o ≡ cancelling premise (o .retailer) o
+  pub cancel-ends : leb mostPending (o .pending .0 + 1) ≡ true → cancelAwaited premise o ≡ cancelling premise (o .retailer) o
   unfolding cancelAwaited
-  cancel-ends h = simp (le-leb mostPending (o .pending .0 + 1) (omega arith))
+  cancel-ends h = rw h refl
 
-  pub cancel-goes-on : o .pending .0 < 6 → cancelAwaited premise o ≡ same (withPending (o .pending .0 + 1) o)
+  pub cancel-goes-on : leb mostPending (o .pending .0 + 1) ≡ false → (more : ℕ) → more ≡ o .pending .0 + 1 → cancelAwaited premise o ≡ same (withPending more o)
   unfolding cancelAwaited
-  cancel-goes-on h = simp (lt-leb mostPending (o .pending .0 + 1) (omega arith))
+  cancel-goes-on h more e = rw (h, e) refl

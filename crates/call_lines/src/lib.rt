@@ -1,6 +1,7 @@
 // The lines of a single call: what came back, written to standard output.
 ghost use Prim.Native.Nat.{_+_, _≤_};
 ghost use lib.ListN.{length};
+ghost use Rattle.records.specs.Layout.{recordLength};
 use book::Book;
 use premise::File;
 use premise::Order;
@@ -16,7 +17,7 @@ pub fn say(letter: u8, numbers: &[u64])
 
 // A notice's line, read from the buffer.
 fn say_notice(buffer: &[u8], at: usize)
-    requires { ⌜ at + 24 ≤ length (now buffer) ⌝ }
+    requires { ⌜ at + recordLength ≤ length (now buffer) ⌝ }
 {
     let notice = record_bytes::read_notice(&buffer[at..]);
     say(
@@ -37,11 +38,11 @@ pub fn say_notices(buffer: &[u8], n: usize) {
     let mut i: usize = 0;
     let mut at: usize = 0;
     while i < n {
-        if buffer.len() - at < 24 {
+        if buffer.len() - at < records::RECORD_LENGTH {
             return;
         }
         say_notice(buffer, at);
-        at += 24;
+        at += records::RECORD_LENGTH;
         i += 1;
     }
 }
@@ -55,20 +56,11 @@ fn say_byte(place: usize, byte: u8) {
 pub fn say_changed(buffer: &[u8], n: usize, pattern: u8) {
     let mut i: usize = 0;
     while i < buffer.len() {
-        if n <= i / 24 && buffer[i] != pattern {
+        if n <= i / records::RECORD_LENGTH && buffer[i] != pattern {
             say_byte(i, buffer[i]);
         }
         i += 1;
     }
-}
-
-// Whether an order is zero throughout.
-fn is_zero(o: Order) -> bool {
-    let waited = o.waited;
-    let pending = o.pending;
-    let days = o.requested == 0 && o.scheduled == 0 && waited.0 == 0 && pending.0 == 0;
-    let rest = o.kind == 0 && o.status == 0 && o.told == 0;
-    o.reference == 0 && o.retailer == 0 && days && rest
 }
 
 // The line of an order place of a file place.
@@ -108,7 +100,7 @@ fn say_file(place: usize, f: File) {
     let mut i: usize = 0;
     while i < premise::MOST_ORDERS {
         let o = f.orders[i];
-        if i < f.count || !is_zero(o) {
+        if i < f.count || !premise_unused::is_blank(o) {
             say_order(place, i, o);
         }
         i += 1;

@@ -10,7 +10,7 @@ use premise::File;
 use premise::Order;
 
 // Whether a place is unused: zero in every field.
-fn is_blank(o: Order) -> bool
+pub fn is_blank(o: Order) -> bool
     ensures { λ r. ⌜ r ≡ isBlank o ⌝ }
 {
     if o.reference != 0 {

@@ -31,8 +31,8 @@ mul-o c = search needs
 element-copy-out-o : tie.Need-element-copy-out-o Inv-loop μ-loop
 element-copy-out-o c = search needs
 
-is-zero-requires : tie.Need-is-zero-requires Inv-loop μ-loop
-is-zero-requires c κs = search needs
+is-blank-requires : tie.Need-is-blank-requires Inv-loop μ-loop
+is-blank-requires c κs = search needs
 
 say-order-requires : tie.Need-say-order-requires Inv-loop μ-loop
 say-order-requires c κs = search needs
@@ -62,7 +62,7 @@ say-file-spec =
     loop-holds
     mul-o
     element-copy-out-o
-    is-zero-requires
+    is-blank-requires
     say-order-requires
     add-i
     loop-less

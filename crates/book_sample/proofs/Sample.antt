@@ -1,19 +1,19 @@
 -- The sample comes out as it must, and its shuffle goes through demand 3, whose premises can thus be met. Assumes nothing.
-use Prim.Native.Nat.{ℕ, _*_, _≤_}
+use Prim.Native.Nat.{ℕ, _≤_}
 use mathlib.Core.Path.{_≡_, refl}
-use mathlib.Core.List.{List, [], _∷_, _++_, map}
-use mathlib.Core.Bool.{Bool, true, false, not, _&&_}
+use mathlib.Core.List.{List, [], _∷_}
+use mathlib.Core.Bool.{Bool, true, false, not}
 use native.Mathlib.Omega.{arith}
 use lib.Dec.{eqb, ltb, lit≤}
-use lib.ListN.{length, drop, replicate}
+use lib.ListN.{length}
 use borrow.Author.Tests.{eqb-true, ltb-true, not-true}
 use Rattle.lists.specs.Search.{allOf}
 use Rattle.lists.proofs.TestLaws.{and-left, and-right, pass-each}
 use Rattle.days.specs.Days.{kindOfDay, isBusinessDay, switchDate}
 use Rattle.days.specs.Window.{businessDays, inWindow}
-use Rattle.records.specs.Layout.{Bytes, recordLength, fieldOf}
+use Rattle.records.specs.Layout.{Bytes, fieldOf}
 use Rattle.records.specs.Records.{wellFormed, reading}
-use Rattle.records.specs.Notices.{encode, encodeAll, rows}
+use Rattle.records.specs.Notices.{encode}
 use Rattle.premise.specs.Orders.{places}
 use Rattle.premise.specs.Steps.{requestedDay, makeRoom, ordered, taken, onScheduled, onPermit, onUnexecutable, onRead, supplied, onCancel, onReply, onOrder, changed}
 use Rattle.premise.specs.Clock.{reviewed, permitAwaited, cancelAwaited, ticked}
@@ -24,8 +24,8 @@ use Rattle.premise.specs.Refusals.{number, premiseRows, orderRows}
 use Rattle.premise.specs.OnePremise.{marked, stepped, step}
 use Rattle.book.specs.declared.Book.{Book}
 use Rattle.book.specs.Book.{freshBook, bookOf, bookKept, fileFor, putIn, takenOut}
-use Rattle.book.specs.Calls.{noticeBytes, Result, callRows, call}
-use Rattle.book.specs.Demand3.{Made, Played, meetsRow6, AllAllowed, Premise, ownBytes, answers, noticesFor, SameBooks}
+use Rattle.book.specs.Calls.{noticeBytes, callRows, call}
+use Rattle.book.specs.Demand3.{Played, meetsRow6, AllAllowed, Premise, ownBytes, SameBooks}
 use Rattle.book.proofs.Demand3.{shuffle-proof}
 use Rattle.book_sample.specs.Sample.{lent, made, plays, allows, create7, create5, order7, order5, scheduled7, scheduled5, mark1, malformed, calendar, tape, sample, shuffled, again, ordered7, dated7, losing7, ordered5, dated5, losing5, buffers, Comes}
 

@@ -33,11 +33,11 @@ use Rattle.book_look.specs.declared.Look.{Look}
 use Rattle.book_look.specs.declared.Look.the-variants.{Refused, Held, NextDay}
 use Rattle.book_look.specs.LookUp.{lookUp, Known, KnownHeld}
 use Rattle.book_look.proofs.LookUp.{look-up-knows}
-use Rattle.book_held.specs.declared.HeldReply.{HeldReply}
-use Rattle.book_held.specs.Held.{HeldReady, heldGiven, HeldGives}
-use Rattle.book_held.specs.InPlace.{InPlace}
-use Rattle.book_held.proofs.Held.{book-ready}
-use Rattle.book_held.proofs.InPlace.{refused-in-place, held-in-place, marked-in-place}
+use Rattle.book_in_place.specs.declared.HeldReply.{HeldReply}
+use Rattle.book_in_place.specs.Held.{HeldReady, heldGiven, HeldGives}
+use Rattle.book_in_place.specs.InPlace.{InPlace}
+use Rattle.book_in_place.proofs.Ready.{book-ready}
+use Rattle.book_in_place.proofs.InPlace.{refused-in-place, held-in-place, marked-in-place}
 
 -- a well-kept book, the premise numbers of its places, and a buffer for the notices of any call
 pub record Standing (b : Book) (numbers buffer : List ℕ) : Type 0 where

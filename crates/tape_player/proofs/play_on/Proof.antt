@@ -8,9 +8,9 @@ use lib.ListN.{length, take, drop}
 use borrow.Author.Needs.{needs}
 use Rattle.book.specs.Book.{mostFiles}
 use Rattle.book_marks.proofs.Marks.{Sofar, sofar-none}
-use Rattle.tape_player.proofs.Stretching.{stretching-length, stretching-within, stretching-closes}
-use Rattle.tape_player.proofs.Ways.{Made, made-as, each-place, look-asks, by-refusal, held-place, held-asks, by-file, by-marks, mark-tidy, mark-room, mark-more, mark-still}
-use Rattle.tape_player.proofs.Turns.{of, Turn, turn-none, standing, turn-tells, turn-more}
+use Rattle.tape_stretches.proofs.Stretching.{stretching-length, stretching-within, stretching-closes}
+use Rattle.tape_stretches.proofs.Ways.{Made, made-as, each-place, look-asks, by-refusal, held-place, held-asks, by-file, by-marks, mark-tidy, mark-room, mark-more, mark-still}
+use Rattle.tape_stretches.proofs.Turns.{of, Turn, turn-none, standing, turn-tells, turn-more}
 use Rattle.tape_player.proofs.play_on.Statement.{statement}
 use Rattle.tape_player.proofs.play_on.Tie as tie
 

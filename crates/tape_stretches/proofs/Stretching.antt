@@ -22,7 +22,7 @@ use Rattle.tape_output.proofs.Lines.{record-text-most, ending-most}
 use Rattle.tape_output.proofs.Left.{left-none, left-next, lent-record}
 use Rattle.tape_output.proofs.Stretches.{next, stretch-next, stretch-full, stretch-ends, stretch-short}
 use Rattle.tape_ending.specs.Closing.{Closes}
-use Rattle.tape_player.proofs.Records.{Shows}
+use Rattle.tape_stretches.proofs.Records.{Shows}
 
 -- text behind text
 behind-behind : (xs ys : List ℕ) (s : Stretched) → behind xs (behind ys s) ≡ behind (xs ++ ys) s

@@ -10,8 +10,8 @@ use lib.Dec.{leb}
 use lib.ListN.{length, take, drop, length-append}
 use borrow.Author.Tests.{leb-true, leb-false, le-leb, lt-leb}
 use Rattle.records.specs.Layout.{recordLength}
-use Rattle.tape_text.specs.Text.{Puts}
-use Rattle.tape_text.proofs.Puts.{puts-none, puts-as, puts-length, puts-then}
+use Rattle.tape_numbers.specs.Numbers.{Puts}
+use Rattle.tape_numbers.proofs.Puts.{puts-none, puts-as, puts-length, puts-then}
 use Rattle.tape_reader.specs.Counts.{mostRecords}
 use Rattle.tape_output.specs.declared.Playing.{Playing}
 use Rattle.tape_output.specs.declared.Stretch.{Stretch}

@@ -11,7 +11,8 @@ use Rattle.premise.specs.Refusals.{number}
 use Rattle.book.specs.declared.Book.{Book}
 use Rattle.book.specs.Laws.{numbersOf}
 use Rattle.book.proofs.Few.{call-few}
-use Rattle.tape_text.specs.Text.{recordLine, Puts}
+use Rattle.tape_numbers.specs.Numbers.{Puts}
+use Rattle.tape_text.specs.Text.{recordLine}
 use Rattle.tape_text.specs.Lengths.{mostNotices}
 use Rattle.tape_reader.specs.declared.Reader.{Reader}
 use Rattle.tape_reader.specs.Counts.{counted, Within}

@@ -1,5 +1,5 @@
-// The book layer, inner: for a player of many records that keeps its book in one place. The premise numbers of the book's places are read off
-// once, and a premise is looked for among them, so that no book is handed over to find a file.
+// The book layer, inner: for a player of many records that keeps its book in one place. The premise numbers of the book's places are
+// read off once, and a premise is looked for among them, so that no book is handed over to find a file.
 ghost use mathlib.Core.Path.{_≡_};
 ghost use Prim.Native.Nat.{_≤_};
 ghost use lib.ListN.{length, take};

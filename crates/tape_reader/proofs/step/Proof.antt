@@ -16,11 +16,11 @@ add-t-3 c = search needs
 
 returns : tie.Need-returns
 unfolding counted
-returns c = simp (eq-eqb _ _ (c .before .if1 .taken))
+returns c = simp (eq-eqb _ 0 (c .before .if1 .taken))
 
 returns-2 : tie.Need-returns-2
 unfolding counted
-returns-2 c = simp (ne-eqb _ _ (c .before .if1 .left))
+returns-2 c = simp (ne-eqb _ 0 (c .before .if1 .left))
 
 pub step-spec : {M : Type 1} → statement M
 step-spec = tie.close (tie.spec add-t add-t-2 add-t-3 returns returns-2)

@@ -14,4 +14,3 @@ pub mod ByReading
 pub mod OnWay
 pub mod OneCall
 pub mod Demand3
-pub mod Sample

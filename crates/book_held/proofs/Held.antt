@@ -1,31 +1,24 @@
 -- A record of kinds 3 to 9 on the file of its premise: what it asks of the layer below is met, and what comes of it is what is promised.
 -- Assumes nothing.
-use Prim.Native.Nat.{ℕ, _≤_, _<_}
-use mathlib.Core.Path.{_≡_, refl, ap, subst}
+use Prim.Native.Nat.{ℕ, _≤_}
+use mathlib.Core.Path.{_≡_, refl, ap}
 use mathlib.Core.List.{List}
 use mathlib.Core.Option.{Option, none, some}
 use mathlib.Core.Bool.{true, false, false≢true}
 use native.Mathlib.Omega.{arith}
-use lib.ListN.{length}
-use lib.Seq.{getD-take}
 use borrow.Author.Tests.{ne-eqb}
-use Rattle.lists.proofs.SearchLaws.{each-at}
 use Rattle.records.specs.declared.Record.{Record}
 use Rattle.records.specs.Records.{kindCreate, kindReply, kindDayMark}
-use Rattle.records.proofs.Readings.{says}
 use Rattle.premise.specs.declared.File.{File}
 use Rattle.premise.specs.declared.FileOrNone.{FileOrNone}
 use Rattle.premise.specs.declared.Replied.{Replied}
 use Rattle.premise.specs.Steps.{is}
 use Rattle.premise.specs.Refusals.{isHeld}
-use Rattle.premise.specs.WellKept.{FileKept}
 use Rattle.premise.specs.Promises.{Room, asStruct, TidyOrNone, Answered}
 use Rattle.premise.proofs.Few.{step-few}
-use Rattle.book.specs.Book.{filesOf}
-use Rattle.book.proofs.Kept.{count-is, book-kept-means}
 use Rattle.book.proofs.Emits.{writes-emits}
-use Rattle.book_held.specs.Held.{HeldReady, heldGiven, HeldGives, BookReady}
-use Rattle.book_held.proofs.Stays.{file-stays}
+use Rattle.book_in_place.specs.Held.{HeldReady, heldGiven, HeldGives}
+use Rattle.book_in_place.proofs.Stays.{file-stays}
 
 -- a file that is left, as the struct has it
 struct-held : (file : Option File) (s : FileOrNone) → s ≡ asStruct file → isHeld file ≡ true → some (s .file) ≡ file
@@ -54,15 +47,3 @@ module _ (calendar : List ℕ) (today : ℕ) (file : File) (r : Record) (buffer 
         file = struct-held (heldGiven calendar today file r .state .file) (p .after) (a .file) (file-stays calendar today file r (ready .from) (ready .upto));
         notices = writes-emits buffer after (p .sent) (heldGiven calendar today file r .notices) (a .wrote);
       }
-
-pub book-ready : BookReady
-book-ready b bytes buffer r at past well room h =
-    let k = book-kept-means b .0 well in
-    let inside : at < length (filesOf b) = omega (arith, h .held .within, count-is b k) in
-    record {
-      kept = subst FileKept (getD-take (b .count) (b .files) at past (h .held .within)) (each-at FileKept (filesOf b) at past inside (k .files));
-      formed = says bytes r (h .says) .formed;
-      from = h .held .from;
-      upto = h .held .upto;
-      room = room;
-    }

@@ -1,3 +1,1 @@
-pub mod Stays
 pub mod Held
-pub mod InPlace

@@ -1,18 +1,11 @@
 // The book layer, inner: for a player of many records that keeps its book in one place. A record of kinds 3 to 9 on a premise that is
-// held is done on that premise's file alone, so that no book is handed over and back. That this, and what else is done in place, is the
-// record call stands in specs/InPlace.antt.
-ghost use Rattle.book_held.specs.Held.{HeldReady, heldGiven, HeldGives};
-use premise::Answer;
+// held is done on that premise's file alone, so that no book is handed over and back. What is asked and promised, and that it is the record
+// call, stands in `book_in_place`.
+ghost use Rattle.book_in_place.specs.Held.{HeldReady, heldGiven, HeldGives};
+use book_in_place::HeldReply;
 use premise::File;
 use premise::FileOrNone;
 use records::Record;
-
-// What a record on a held premise gives: the answer, how many notices stand in the buffer, and the premise's file afterwards.
-pub struct HeldReply {
-    pub answer: Answer,
-    pub sent: usize,
-    pub file: File,
-}
 
 // A record of kinds 3 to 9 on its premise's file.
 pub fn held_call(calendar: &[u8], today: u16, file: File, r: Record, buffer: &mut [u8]) -> HeldReply

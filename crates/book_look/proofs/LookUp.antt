@@ -29,8 +29,9 @@ use Rattle.book.specs.Calls.{onMark, refusal}
 use Rattle.book.specs.Laws.{numbersOf}
 use Rattle.book.proofs.ByReading.{call-malformed, call-not-held, call-on-mark}
 use Rattle.book_look.specs.declared.Look.the-variants.{Refused, Held, NextDay, Other}
-use Rattle.book_look.specs.LookUp.{placeOfPremise, lookAt, lookOn, lookIn, Known, KnownHeld, LookUpKnows}
-use Rattle.book_look.proofs.Numbers.{map-at}
+use Rattle.book_numbers.specs.Numbers.{placeOfPremise}
+use Rattle.book_look.specs.LookUp.{lookAt, lookOn, lookIn, Known, KnownHeld, LookUpKnows}
+use Rattle.book_numbers.proofs.Numbers.{map-at}
 use Rattle.book_look.proofs.Ways.{look-read}
 
 -- ---- a place that is found, and none

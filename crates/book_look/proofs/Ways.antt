@@ -12,7 +12,8 @@ use Rattle.records.specs.declared.Reading.{Reading}
 use Rattle.records.specs.Records.{reading, kindRetire, kindReply, kindDayMark}
 use Rattle.premise.specs.declared.Answer.the-variants.{NotNextDay}
 use Rattle.book_look.specs.declared.Look.the-variants.{Refused, Held, NextDay, Other}
-use Rattle.book_look.specs.LookUp.{placeOfPremise, lookAt, lookFor, lookIn, lookUp}
+use Rattle.book_numbers.specs.Numbers.{placeOfPremise}
+use Rattle.book_look.specs.LookUp.{lookAt, lookFor, lookIn, lookUp}
 
 module _ (today : ℕ) (r : Record) (numbers : List ℕ) where
   -- ---- a day mark

@@ -7,7 +7,6 @@ use lib.Dec.{eqb}
 use lib.ListN.{length, take}
 use Rattle.lists.specs.declared.Found.{Found}
 use Rattle.lists.specs.declared.Found.the-variants.{At, Nothing}
-use Rattle.lists.specs.Search.{placeOf}
 use Rattle.records.specs.declared.Record.{Record}
 use Rattle.records.specs.declared.Reading.{Reading}
 use Rattle.records.specs.declared.Reading.the-variants.{Malformed, Says}
@@ -21,14 +20,11 @@ use Rattle.book.specs.declared.Book.{Book}
 use Rattle.book.specs.Book.{filesOf, bookOf, bookKept}
 use Rattle.book.specs.Calls.{noticeBytes, markedFiles, markedNotices, Result, refusal, call}
 use Rattle.book.specs.Laws.{OnHeld, numbersOf}
+use Rattle.book_numbers.specs.Numbers.{placeOfPremise}
 use Rattle.book_look.specs.declared.Look.{Look}
 use Rattle.book_look.specs.declared.Look.the-variants.{Refused, Held, NextDay, Other}
 
 -- ---- what is to be done
--- the place of the first of some numbers that is a premise's
-abbrev pub placeOfPremise : ℕ → List ℕ → Found
-placeOfPremise premise numbers = placeOf (λ (n : ℕ). eqb n premise) numbers
-
 -- kinds 2 to 9, by the place of the premise's file: a retire takes the file out of the book, any other leaves it there
 abbrev pub lookAt : Record → Found → Look
 lookAt r (At i) = cond (is kindRetire r) Other (Held i r)

@@ -5,9 +5,7 @@ ghost use mathlib.Core.Path.{_≡_};
 ghost use Prim.Native.Nat.{_≤_};
 ghost use lib.ListN.{length, take};
 ghost use Rattle.days.specs.Days.{lastDay};
-ghost use Rattle.book.specs.Laws.{numbersOf};
-ghost use Rattle.book_look.specs.LookUp.{placeOfPremise, lookFor, lookUp};
-use book::Book;
+ghost use Rattle.book_look.specs.LookUp.{lookFor, lookUp};
 use lists::Found;
 use premise::Answer;
 use records::Reading;
@@ -23,35 +21,6 @@ pub enum Look {
     NextDay(u16),
     // It is a create, or a retire of a premise that is held: the files may move.
     Other,
-}
-
-// The premise numbers of all places of a book, 0 where a place is unused.
-pub fn premises(b: Book) -> [u64; 64]
-    ensures { λ r. ⌜ r ≡ numbersOf b ⌝ }
-{
-    let mut numbers: [u64; 64] = [0; 64];
-    let mut place: usize = 0;
-    while place < book::MOST_FILES {
-        let f = b.files[place];
-        numbers[place] = f.premise;
-        place += 1;
-    }
-    numbers
-}
-
-// The place of a premise among the first `count` numbers.
-fn place_of(premises: &[u64], count: usize, premise: u64) -> Found
-    requires { ⌜ count ≤ length (now premises) ⌝ }
-    ensures { λ r. ⌜ r ≡ placeOfPremise premise (take count (now (premises .entry))) ⌝ }
-{
-    let mut i: usize = 0;
-    while i < count {
-        if premises[i] == premise {
-            return Found::At(i);
-        }
-        i += 1;
-    }
-    Found::Nothing
 }
 
 // What is to be done with what a record says.
@@ -71,7 +40,7 @@ fn look_for(r: Record, today: u16, premises: &[u64], count: usize) -> Look
     if records::record_kind::REPLY < r.kind {
         return Look::Other;
     }
-    let found = place_of(premises, count, r.premise);
+    let found = book_numbers::place_of(premises, count, r.premise);
     let Found::At(i) = found else {
         return Look::Refused(Answer::NoSuchPremise);
     };

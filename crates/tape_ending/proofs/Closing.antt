@@ -6,8 +6,8 @@ use mathlib.Core.Bool.{Bool, true, false, cond, _&&_}
 use lib.Dec.{leb}
 use lib.ListN.{length}
 use borrow.Author.Tests.{le-leb, lt-leb}
-use Rattle.tape_text.specs.Text.{Puts}
-use Rattle.tape_text.proofs.Puts.{puts-none}
+use Rattle.tape_numbers.specs.Numbers.{Puts}
+use Rattle.tape_numbers.proofs.Puts.{puts-none}
 use Rattle.tape_output.specs.declared.Playing.{Playing}
 use Rattle.tape_output.specs.Output.{ending}
 use Rattle.tape_output.specs.Stretches.{endingMost}

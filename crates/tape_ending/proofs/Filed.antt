@@ -9,7 +9,8 @@ use Rattle.premise.specs.declared.File.{File}
 use Rattle.book.specs.Book.{mostFiles, filesOf}
 use Rattle.book.proofs.Kept.{count-is, book-kept-means}
 use Rattle.book_files.proofs.Tidy.{past}
-use Rattle.tape_text.specs.Text.{fileLine, totalLine, Puts}
+use Rattle.tape_numbers.specs.Numbers.{Puts}
+use Rattle.tape_text.specs.Text.{fileLine, totalLine}
 use Rattle.tape_output.specs.declared.Playing.{Playing}
 use Rattle.tape_output.specs.Output.{fileLines, ending}
 use Rattle.tape_output.specs.Stretches.{endingMost, Ready}

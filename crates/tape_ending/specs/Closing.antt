@@ -5,7 +5,7 @@ use mathlib.Core.List.{List, []}
 use mathlib.Core.Bool.{Bool, cond, _&&_}
 use lib.Dec.{leb}
 use lib.ListN.{length}
-use Rattle.tape_text.specs.Text.{Puts}
+use Rattle.tape_numbers.specs.Numbers.{Puts}
 use Rattle.tape_output.specs.declared.Playing.{Playing}
 use Rattle.tape_output.specs.declared.Stretch.{Stretch}
 use Rattle.tape_output.specs.Output.{ending}

@@ -1,7 +1,7 @@
 // The tape layer, inner: how a stretch of a tape closes, with the text of the end.
 ghost use Prim.Native.Nat.{_+_, _≤_};
 ghost use lib.ListN.{length};
-ghost use Rattle.tape_text.specs.Text.{Puts};
+ghost use Rattle.tape_numbers.specs.Numbers.{Puts};
 ghost use Rattle.tape_output.specs.Output.{ending};
 ghost use Rattle.tape_output.specs.Stretches.{endingMost, Ready};
 ghost use Rattle.tape_ending.specs.Closing.{Closes};

@@ -7,7 +7,8 @@ use lib.ListN.{length, take, drop}
 use lib.Seq.{drop-drop}
 use Rattle.records.specs.Layout.{recordLength, Bytes}
 use Rattle.records.specs.Notices.{decode, rows}
-use Rattle.tape_text.specs.Text.{noticeLine, Puts}
+use Rattle.tape_numbers.specs.Numbers.{Puts}
+use Rattle.tape_text.specs.Text.{noticeLine}
 use Rattle.tape_text.specs.Lengths.{noticeLineMost}
 use Rattle.tape_output.specs.Output.{rowLines}
 use Rattle.tape_output.proofs.Lines.{buffer-lines-most}

@@ -8,9 +8,10 @@ use Rattle.records.specs.Layout.{Bytes}
 use Rattle.records.specs.Notices.{rows}
 use Rattle.premise.specs.declared.Answer.{Answer}
 use Rattle.premise.specs.Refusals.{number}
-use Rattle.tape_text.specs.Text.{recordLine, Puts}
+use Rattle.tape_numbers.specs.Numbers.{Puts}
+use Rattle.tape_text.specs.Text.{recordLine}
 use Rattle.tape_text.specs.Lengths.{mostNotices, recordLineMost, noticeLineMost}
-use Rattle.tape_text.proofs.Puts.{puts-as, puts-length, puts-then}
+use Rattle.tape_numbers.proofs.Puts.{puts-as, puts-length, puts-then}
 use Rattle.tape_text.proofs.Lengths.{record-line}
 use Rattle.tape_reader.specs.declared.Reader.{Reader}
 use Rattle.tape_reader.specs.Counts.{counted, Within}

@@ -34,7 +34,7 @@ pub fn play_on(
 {
     let mut b = p.book;
     let mut reader = p.reader;
-    let mut numbers = book_look::premises(b);
+    let mut numbers = book_numbers::premises(b);
     let mut stop: usize = 0;
     let mut from = records::RECORD_LENGTH * reader.place;
     while from < tape.len() {
@@ -81,7 +81,7 @@ pub fn play_on(
                 answer = reply.answer;
                 sent = reply.sent;
                 b = reply.book;
-                numbers = book_look::premises(b);
+                numbers = book_numbers::premises(b);
             }
         }
         let t = tape_lines::show(reader, answer, sent, stop, notices, out);

@@ -3,8 +3,6 @@ use Prim.Native.Nat.{ℕ}
 use mathlib.Core.List.{List, [], _∷_, _++_}
 use Rattle.records.specs.declared.Notice.{Notice}
 use Rattle.tape_numbers.specs.Numbers.{decimal, spaced, lettered}
--- what a writer leaves, for those who put lines one after another
-pub use Rattle.tape_numbers.specs.Numbers.{Puts}
 
 -- Lines: place from 1, answer, n.
 unfoldable pub recordLine : ℕ → ℕ → ℕ → List ℕ

@@ -1,22 +1,20 @@
 -- `tape_player::play_on` meets its contract. The outer loop's invariant: the records before the one reached are played, their text is put,
 -- the stretch of those that are left is the rest of the whole, and the numbers are those of the book's places; its measure is the bytes of
 -- the tape that are left. The inner loop's: the files before the one reached are marked; its measure is the files left. Assumes nothing.
-use Prim.Native.Nat.{_-_, _≤_, _<_}
+use Prim.Native.Nat.{_-_, _<_}
 use mathlib.Core.Logic.{inl, inr, ⊎-elim}
 use native.Mathlib.Omega.{arith}
 use lib.ListN.{length, take, drop}
-use borrow.Author.Needs.{needs}
 use Rattle.book.specs.Book.{mostFiles}
-use Rattle.book_marks.proofs.Marks.{Sofar, sofar-none}
-use Rattle.tape_player.proofs.Stretching.{stretching-length, stretching-within, stretching-closes}
-use Rattle.tape_player.proofs.Ways.{Made, made-as, each-place, look-asks, by-refusal, held-place, held-asks, by-file, by-marks, mark-tidy, mark-room, mark-more, mark-still}
-use Rattle.tape_player.proofs.Turns.{of, Turn, turn-none, standing, turn-tells, turn-more}
+use Rattle.tape_stretches.proofs.Stretching.{stretching-length, stretching-within, stretching-closes}
+use Rattle.tape_stretches.proofs.Ways.{Made, made-as, each-place, look-asks, by-refusal, held-place, held-asks, by-file, by-marks, Marking, mark-none, mark-place, mark-tidy, mark-room, mark-more, mark-still}
+use Rattle.tape_stretches.proofs.Turns.{of, Turn, turn-none, standing, turn-tells, turn-more}
 use Rattle.tape_player.proofs.play_on.Statement.{statement}
 use Rattle.tape_player.proofs.play_on.Tie as tie
 
 abbrev Inv-loop2 : tie.InvT-loop2
 Inv-loop2 calendar tape notices₀ out b₀ reader numbers stop from to count answer sent₀ day business last place₀ notices b sent place =
-    (count ≤ mostFiles) × Sofar calendar day (b₀ .count) (b₀ .files) notices₀ place sent b notices
+    Marking calendar day (b₀ .count) (b₀ .files) numbers notices₀ place sent b notices
 
 abbrev μ-loop2 : tie.MeasureT-loop2
 μ-loop2 calendar tape notices₀ out b₀ reader numbers stop from to count answer sent₀ day business last place₀ notices b sent place = count - place
@@ -49,49 +47,33 @@ held-call-requires c κs =
 
 -- ---- the record marks the next day
 loop2-holds : tie.Need-loop2-holds Inv-loop2 μ-loop2 Inv-loop μ-loop
-loop2-holds c =
-    let l = c .before .before .before .before .before .before .before .before .before .before .before in
-    let v = standing (l .loop .inv) in
-    (omega (arith, look-asks v .1, each-place v), sofar-none _ _ (l .loop .b) (l .loop .notices))
+loop2-holds c = mark-none _ _ (standing (c .before .before .before .before .before .before .before .before .before .before .before .loop .inv))
 
 is-touched-requires : tie.Need-is-touched-requires Inv-loop2 μ-loop2 Inv-loop μ-loop
-is-touched-requires c κs =
-    let i = c .before in
-    let j = i .before in
-    let l = j .before .before .before .before .before .before .before .before .before .before .before .before in
-    mark-tidy (standing (l .loop .inv)) (j .loop2 .inv .1) (i .loop2-test .taken)
+is-touched-requires c κs = let i = c .before in mark-tidy (i .before .loop2 .inv) (i .loop2-test .taken)
 
 mark-requires : tie.Need-mark-requires Inv-loop2 μ-loop2 Inv-loop μ-loop
 mark-requires c κs =
     let i = c .before .before .before .before in
     let j = i .before in
-    let n = j .before in
-    let v = standing (n .before .before .before .before .before .before .before .before .before .before .before .loop .inv) in
-    (mark-tidy v (j .loop2 .inv .1) (i .loop2-test .taken), mark-room v (j .loop2 .inv .1) (i .loop2-test .taken), n .last-in-window .ensures)
-
--- the turn of the file at the place reached
-marks-within : (i : tie.In-loop2 Inv-loop2 μ-loop2 Inv-loop μ-loop) → i .before .loop2 .place < mostFiles
-marks-within i = omega (arith, i .before .loop2 .inv .0, i .loop2-test .taken)
+    (mark-tidy (j .loop2 .inv) (i .loop2-test .taken), mark-room (j .loop2 .inv) (i .loop2-test .taken), j .before .last-in-window .ensures)
 
 loop2-again : tie.Need-loop2-again Inv-loop2 μ-loop2 Inv-loop μ-loop
 loop2-again c =
     let x = c .before .before .before in
     let i = x .before .before .before .before .before in
-    let j = i .before in
-    let l = j .before .before .before .before .before .before .before .before .before .before .before .before in
-    (j .loop2 .inv .0, mark-more (standing (l .loop .inv)) (j .loop2 .inv .1) (i .loop2-test .taken) (x .mark .result) (x .mark .ensures))
+    mark-more (i .before .loop2 .inv) (i .loop2-test .taken) (x .mark .result) (x .mark .ensures)
 
 loop2-again-2 : tie.Need-loop2-again-2 Inv-loop2 μ-loop2 Inv-loop μ-loop
 loop2-again-2 c =
     let u = c .before in
     let i = u .before .before in
-    let j = i .before in
-    let n = j .before in
-    let l = n .before .before .before .before .before .before .before .before .before .before .before in (
-      j .loop2 .inv .0,
-      mark-still (standing (l .loop .inv)) (j .loop2 .inv .1) (i .loop2-test .taken) _ _ _ (n .before .is-business-day .ensures) (n .last-in-window .ensures)
-          (u .is-touched .ensures) (c .if2 .left),
-    )
+    let n = i .before .before in
+    mark-still (i .before .loop2 .inv) (i .loop2-test .taken) _ _ _ (n .before .is-business-day .ensures) (n .last-in-window .ensures) (u .is-touched .ensures) (c .if2 .left)
+
+-- the file at the place reached stands in the book
+marks-within : (i : tie.In-loop2 Inv-loop2 μ-loop2 Inv-loop μ-loop) → i .before .loop2 .place < mostFiles
+marks-within i = mark-place (i .before .loop2 .inv) (i .loop2-test .taken)
 
 -- ---- its call is made, by one of the four ways
 abbrev MadeAt : tie.At-match-came Inv-loop2 μ-loop2 Inv-loop μ-loop → Type 0
@@ -114,7 +96,7 @@ made c =
     (by-file v _ (k .look-up .ensures) (x .1 .given .1) (x .5 .result) (x .5 .ensures)))
     (⊎-elim
     (λ x. made-as (λ i. record { answer = x .10 i; sent = x .11 i; book = x .8 i; numbers = x .9 i; buffer = x .7 i })
-    (by-marks v _ (k .look-up .ensures) (x .1 .given .1) (x .5 .inv .1) (x .6 .left)))
+    (by-marks v _ (k .look-up .ensures) (x .1 .given .1) (x .5 .inv .sofar) (x .6 .left)))
     (λ x. made-as (λ i. record { answer = x .11 i; sent = x .12 i; book = x .9 i; numbers = x .10 i; buffer = x .8 i })
     (record { promised = x .3 .ensures; own = x .7 .ensures }))))
     (c .match .came)

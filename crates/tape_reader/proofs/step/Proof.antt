@@ -17,11 +17,11 @@ add-t-3 c = search needs
 
 returns : tie.Need-returns
 unfolding counted
-returns c = simp (eq-eqb _ _ (c .before .if1 .taken)) refl
+returns c = simp (eq-eqb _ 0 (c .before .if1 .taken)) refl
 
 returns-2 : tie.Need-returns-2
 unfolding counted
-returns-2 c = simp (ne-eqb _ _ (c .before .if1 .left)) refl
+returns-2 c = simp (ne-eqb _ 0 (c .before .if1 .left)) refl
 
 pub step-spec : {M : Type 1} → statement M
 step-spec = tie.close (tie.spec add-t add-t-2 add-t-3 returns returns-2)

@@ -1,4 +1,4 @@
--- `book_look::premises` meets its contract. The loop's invariant: the numbers of the places passed are read off. The measure is the
+-- `book_numbers::premises` meets its contract. The loop's invariant: the numbers of the places passed are read off. The measure is the
 -- places left. Assumes nothing.
 use Prim.Native.Nat.{ℕ, _≤_, _-_}
 use mathlib.Core.Path.{_≡_, ap, _∙_}
@@ -8,9 +8,9 @@ use lib.ListN.{length}
 use Rattle.lists.proofs.Length.{unmapped}
 use Rattle.book.specs.declared.Book.{Book}
 use Rattle.book.specs.Book.{mostFiles}
-use Rattle.book_look.proofs.Numbers.{readOff, read-none, read-more, read-all}
-use Rattle.book_look.proofs.premises.Statement.{statement}
-use Rattle.book_look.proofs.premises.Tie as tie
+use Rattle.book_numbers.proofs.Numbers.{readOff, read-none, read-more, read-all}
+use Rattle.book_numbers.proofs.premises.Statement.{statement}
+use Rattle.book_numbers.proofs.premises.Tie as tie
 
 record ReadOff (b : Book) (read : List ℕ) (place : ℕ) : Type 0 where
   within : place ≤ mostFiles

@@ -11,7 +11,8 @@ use Rattle.premise.specs.Refusals.{number}
 use Rattle.book.specs.declared.Book.{Book}
 use Rattle.book.specs.Laws.{numbersOf}
 use Rattle.book.proofs.Few.{call-few}
-use Rattle.tape_text.specs.Text.{recordLine, Puts}
+use Rattle.tape_numbers.specs.Numbers.{Puts}
+use Rattle.tape_text.specs.Text.{recordLine}
 use Rattle.tape_text.specs.Lengths.{mostNotices}
 use Rattle.tape_reader.specs.declared.Reader.{Reader}
 use Rattle.tape_reader.specs.Counts.{counted, Within}
@@ -19,9 +20,9 @@ use Rattle.tape_output.specs.declared.Playing.{Playing}
 use Rattle.tape_output.specs.Output.{rowLines, tapeMost}
 use Rattle.tape_output.specs.Stretches.{recordTextMost, Ready, Roomy}
 use Rattle.tape_lines.specs.declared.Told.{Told}
-use Rattle.tape_player.proofs.Records.{Answered, answered, shown}
-use Rattle.tape_player.proofs.Stretching.{Stretching, stretching-none, stretching-room, stretching-left, stretching-more}
-use Rattle.tape_player.proofs.Ways.{Standing, Outcome, Made}
+use Rattle.tape_stretches.proofs.Records.{Answered, answered, shown}
+use Rattle.tape_stretches.proofs.Stretching.{Stretching, stretching-none, stretching-room, stretching-left, stretching-more}
+use Rattle.tape_stretches.proofs.Ways.{Standing, Outcome, Made}
 
 -- a tape that is being played, of its two parts
 abbrev pub of : Reader → Book → Playing

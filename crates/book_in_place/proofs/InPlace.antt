@@ -8,7 +8,7 @@ use Rattle.book.proofs.Kept.{book-kept-means}
 use Rattle.book.proofs.Emits.{writes-emits}
 use Rattle.book.proofs.OnHeld.{call-on-held}
 use Rattle.book.proofs.ByReading.{mark-keeps-numbers}
-use Rattle.book_held.specs.InPlace.{RefusedInPlace, HeldInPlace, MarkedInPlace}
+use Rattle.book_in_place.specs.InPlace.{RefusedInPlace, HeldInPlace, MarkedInPlace}
 
 pub refused-in-place : RefusedInPlace
 refused-in-place calendar b bytes buffer answer room known =

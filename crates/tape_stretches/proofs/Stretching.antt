@@ -10,8 +10,8 @@ use lib.Dec.{leb}
 use lib.ListN.{length, take, drop, length-append}
 use borrow.Author.Tests.{leb-true, leb-false, le-leb, lt-leb}
 use Rattle.records.specs.Layout.{recordLength}
-use Rattle.tape_text.specs.Text.{Puts}
-use Rattle.tape_text.proofs.Puts.{puts-none, puts-as, puts-length, puts-then}
+use Rattle.tape_numbers.specs.Numbers.{Puts}
+use Rattle.tape_numbers.proofs.Puts.{puts-none, puts-as, puts-length, puts-then}
 use Rattle.tape_reader.specs.Counts.{mostRecords}
 use Rattle.tape_output.specs.declared.Playing.{Playing}
 use Rattle.tape_output.specs.declared.Stretch.{Stretch}
@@ -22,7 +22,7 @@ use Rattle.tape_output.proofs.Lines.{record-text-most, ending-most}
 use Rattle.tape_output.proofs.Left.{left-none, left-next, lent-record}
 use Rattle.tape_output.proofs.Stretches.{next, stretch-next, stretch-full, stretch-ends, stretch-short}
 use Rattle.tape_ending.specs.Closing.{Closes}
-use Rattle.tape_player.proofs.Records.{Shows}
+use Rattle.tape_stretches.proofs.Records.{Shows}
 
 -- text behind text
 behind-behind : (xs ys : List ℕ) (s : Stretched) → behind xs (behind ys s) ≡ behind (xs ++ ys) s

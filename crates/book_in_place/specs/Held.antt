@@ -16,7 +16,7 @@ use Rattle.premise.specs.OnePremise.{Given, step}
 use Rattle.book.specs.declared.Book.{Book}
 use Rattle.book.specs.Book.{bookKept}
 use Rattle.book.specs.Calls.{noticeBytes}
-use Rattle.book_held.specs.declared.HeldReply.{HeldReply}
+use Rattle.book_in_place.specs.declared.HeldReply.{HeldReply}
 use Rattle.book_look.specs.LookUp.{KnownHeld}
 
 -- what is asked: a well-kept file, a well-formed record of kinds 3 to 9, and a long enough buffer
@@ -43,7 +43,7 @@ FileStays =
     (calendar : List ℕ) (today : ℕ) (file : File) (r : Record) → kindNewOrder ≤ r .kind → r .kind ≤ kindReply
     → isHeld (heldGiven calendar today file r .state .file) ≡ true
 
--- a well-kept book, a long enough buffer and a record on a premise that it holds give what is asked; proofs/Held.antt proves it
+-- a well-kept book, a long enough buffer and a record on a premise that it holds give what is asked; proofs/Ready.antt proves it
 abbrev pub BookReady : Type 0
 BookReady =
     (b : Book) (bytes buffer : List ℕ) (r : Record) (at : ℕ) (past : File)

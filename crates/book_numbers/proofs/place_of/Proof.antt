@@ -1,4 +1,4 @@
--- `book_look::place_of` meets its contract. The loop's invariant: the search from the place reached gives what the whole search gives.
+-- `book_numbers::place_of` meets its contract. The loop's invariant: the search from the place reached gives what the whole search gives.
 -- The measure is the numbers left. Assumes nothing.
 use Prim.Native.Nat.{ℕ, _≤_, _-_}
 use mathlib.Core.Path.{_≡_, sym, _∙_}
@@ -9,9 +9,9 @@ use borrow.Author.Needs.{needs}
 use borrow.Author.Tests.{eq-eqb, ne-eqb}
 use Rattle.lists.specs.Search.{placeFrom}
 use Rattle.lists.proofs.Find.{drop-part, part-none, place-hit, place-next, place-end}
-use Rattle.book_look.specs.LookUp.{placeOfPremise}
-use Rattle.book_look.proofs.place_of.Statement.{statement}
-use Rattle.book_look.proofs.place_of.Tie as tie
+use Rattle.book_numbers.specs.Numbers.{placeOfPremise}
+use Rattle.book_numbers.proofs.place_of.Statement.{statement}
+use Rattle.book_numbers.proofs.place_of.Tie as tie
 
 abbrev has : ℕ → ℕ → Bool
 has premise n = eqb n premise

@@ -27,17 +27,17 @@ use Rattle.book.specs.Promise.{Promised}
 use Rattle.book.proofs.Kept.{book-kept-means}
 use Rattle.book_files.specs.Places.{TidyBook}
 use Rattle.book_files.proofs.Tidy.{past, withPlaces, tidy-kept, length-files}
-use Rattle.book_marks.proofs.Marks.{Sofar, sofar-tidy, sofar-room, sofar-turn, sofar-still, sofar-book, sofar-wrote}
+use Rattle.book_marks.proofs.Marks.{Sofar, sofar-none, sofar-tidy, sofar-room, sofar-turn, sofar-still, sofar-book, sofar-wrote}
 use Rattle.book_marks.proofs.OnMark.{mark-asks}
 use Rattle.book_look.specs.declared.Look.{Look}
 use Rattle.book_look.specs.declared.Look.the-variants.{Refused, Held, NextDay}
 use Rattle.book_look.specs.LookUp.{lookUp, Known, KnownHeld}
 use Rattle.book_look.proofs.LookUp.{look-up-knows}
-use Rattle.book_held.specs.declared.HeldReply.{HeldReply}
-use Rattle.book_held.specs.Held.{HeldReady, heldGiven, HeldGives}
-use Rattle.book_held.specs.InPlace.{InPlace}
-use Rattle.book_held.proofs.Held.{book-ready}
-use Rattle.book_held.proofs.InPlace.{refused-in-place, held-in-place, marked-in-place}
+use Rattle.book_in_place.specs.declared.HeldReply.{HeldReply}
+use Rattle.book_in_place.specs.Held.{HeldReady, heldGiven, HeldGives}
+use Rattle.book_in_place.specs.InPlace.{InPlace}
+use Rattle.book_in_place.proofs.Ready.{book-ready}
+use Rattle.book_in_place.proofs.InPlace.{refused-in-place, held-in-place, marked-in-place}
 
 -- a well-kept book, the premise numbers of its places, and a buffer for the notices of any call
 pub record Standing (b : Book) (numbers buffer : List ℕ) : Type 0 where
@@ -109,23 +109,46 @@ module _ {b : Book} {numbers buffer : List ℕ} (t : Standing b numbers buffer) 
         (marked-in-place calendar b bytes buffer after day sent c (t .kept) (t .room) (known (NextDay day) is)
         (sofar-book calendar day b tidy buffer i sent c after s end) (sofar-wrote calendar day b tidy buffer i sent c after s end))
 
-  -- ---- the day mark, after some files: the next is marked, or not touched
-  module _ {calendar : List ℕ} {day i sent : ℕ} {c : Book} {after : List ℕ} (s : Sofar calendar day (b .count) (b .files) buffer i sent c after) (h : i < b .count) where
-    asks : TidyBook b × Each Tidy (filesOf b) × Room 0 (markedNotices calendar day (filesOf b)) buffer
-    asks = mark-asks calendar b day buffer kept (t .room)
+-- ---- the day mark
+-- .. after some files: `today` is T before it
+pub record Marking (calendar : List ℕ) (day count : ℕ) (files : List File) (numbers buffer : List ℕ) (i sent : ℕ) (c : Book) (after : List ℕ) : Type 0 where
+  pub today : ℕ
+  pub standing : Standing (record { today = today; count = count; files = files }) numbers buffer
+  pub sofar : Sofar calendar day count files buffer i sent c after
 
-    pub mark-tidy : Tidy (getD (c .files) i past)
-    mark-tidy = sofar-tidy calendar day b (asks .0) buffer (asks .2) i sent c after s h (asks .1)
+pub mark-none : (calendar : List ℕ) (day : ℕ) {b : Book} {numbers buffer : List ℕ} → Standing b numbers buffer
+    → Marking calendar day (b .count) (b .files) numbers buffer 0 0 (record { today = day; count = b .count; files = b .files }) buffer
+mark-none calendar day {b} {numbers} {buffer} t = record { today = b .today; standing = t; sofar = sofar-none calendar day b buffer }
 
-    pub mark-room : Room sent (marked calendar day (getD (c .files) i past) .notices) after
-    mark-room = sofar-room calendar day b (asks .0) buffer (asks .2) i sent c after s h
+-- the next file is marked, or not touched
+module _ {calendar : List ℕ} {day count : ℕ} {files : List File} {numbers buffer : List ℕ} {i sent : ℕ} {c : Book} {after : List ℕ}
+    (m : Marking calendar day count files numbers buffer i sent c after) (h : i < count) where
+  abbrev book : Book
+  book = record { today = m .today; count = count; files = files }
 
-    pub mark-more : (r : Passed) {last : List ℕ} → DoneToFile (marked calendar day (getD (c .files) i past)) sent r after last
-        → Sofar calendar day (b .count) (b .files) buffer (i + 1) (r .sent) (withPlaces c (c .count) (set (c .files) i (r .file))) last
-    mark-more r {last} done = sofar-turn calendar day b (asks .0) buffer (asks .2) i sent c after s h r last done
+  pub mark-place : i < mostFiles
+  mark-place = omega (arith, h, kept (m .standing) .few)
 
-    pub mark-still : (business untouched : Bool) (last : ℕ) → business ≡ isBusinessDay calendar day → LastInWindow calendar windowWidth day last
-        → untouched ≡ touched business day last (held (getD (c .files) i past)) → untouched ≡ false
-        → Sofar calendar day (b .count) (b .files) buffer (i + 1) sent c after
-    mark-still business untouched last kind window asked stays =
-        sofar-still calendar day b (asks .0) buffer (asks .2) i sent c after s h business untouched last (asks .1) kind window asked stays
+  asks : TidyBook book × Each Tidy (filesOf book) × Room 0 (markedNotices calendar day (filesOf book)) buffer
+  asks = mark-asks calendar book day buffer (kept (m .standing)) (m .standing .room)
+
+  pub mark-tidy : Tidy (getD (c .files) i past)
+  mark-tidy = sofar-tidy calendar day book (asks .0) buffer (asks .2) i sent c after (m .sofar) h (asks .1)
+
+  pub mark-room : Room sent (marked calendar day (getD (c .files) i past) .notices) after
+  mark-room = sofar-room calendar day book (asks .0) buffer (asks .2) i sent c after (m .sofar) h
+
+  pub mark-more : (r : Passed) {last : List ℕ} → DoneToFile (marked calendar day (getD (c .files) i past)) sent r after last
+      → Marking calendar day count files numbers buffer (i + 1) (r .sent) (withPlaces c (c .count) (set (c .files) i (r .file))) last
+  mark-more r {last} done =
+      record { today = m .today; standing = m .standing; sofar = sofar-turn calendar day book (asks .0) buffer (asks .2) i sent c after (m .sofar) h r last done }
+
+  pub mark-still : (business untouched : Bool) (last : ℕ) → business ≡ isBusinessDay calendar day → LastInWindow calendar windowWidth day last
+      → untouched ≡ touched business day last (held (getD (c .files) i past)) → untouched ≡ false
+      → Marking calendar day count files numbers buffer (i + 1) sent c after
+  mark-still business untouched last kind window asked stays =
+      record {
+        today = m .today;
+        standing = m .standing;
+        sofar = sofar-still calendar day book (asks .0) buffer (asks .2) i sent c after (m .sofar) h business untouched last (asks .1) kind window asked stays;
+      }

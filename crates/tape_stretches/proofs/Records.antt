@@ -12,9 +12,10 @@ use Rattle.premise.specs.Refusals.{number}
 use Rattle.book.specs.declared.Reply.{Reply}
 use Rattle.book.specs.Calls.{Result, noticeBytes}
 use Rattle.book.specs.Promise.{Promised}
-use Rattle.tape_text.specs.Text.{recordLine, Puts}
+use Rattle.tape_numbers.specs.Numbers.{Puts}
+use Rattle.tape_text.specs.Text.{recordLine}
 use Rattle.tape_text.specs.Lengths.{mostNotices}
-use Rattle.tape_text.proofs.Puts.{puts-as}
+use Rattle.tape_numbers.proofs.Puts.{puts-as}
 use Rattle.tape_reader.specs.declared.Reader.{Reader}
 use Rattle.tape_reader.specs.Counts.{counted}
 use Rattle.tape_output.specs.declared.Playing.{Playing}

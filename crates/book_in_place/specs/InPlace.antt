@@ -15,9 +15,9 @@ use Rattle.book.specs.Book.{filesOf, bookOf, bookKept}
 use Rattle.book.specs.Calls.{noticeBytes, markedFiles, markedNotices}
 use Rattle.book.specs.Laws.{withFileAt, numbersOf}
 use Rattle.book.specs.Promise.{Promised}
-use Rattle.book_held.specs.declared.HeldReply.{HeldReply}
+use Rattle.book_in_place.specs.declared.HeldReply.{HeldReply}
 use Rattle.book_look.specs.LookUp.{KnownRefused, KnownHeld, KnownMark}
-use Rattle.book_held.specs.Held.{heldGiven, HeldGives}
+use Rattle.book_in_place.specs.Held.{heldGiven, HeldGives}
 
 -- the record call's own promise, and the same premise numbers
 pub record InPlace (calendar : List ℕ) (b : Book) (bytes before : List ℕ) (reply : Reply) (after : List ℕ) : Type 0 where

@@ -1,0 +1,3 @@
+pub mod Stays
+pub mod Ready
+pub mod InPlace

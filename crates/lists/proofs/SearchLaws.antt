@@ -5,7 +5,7 @@ use mathlib.Core.Path.{_≡_, refl, ap, ap₂}
 use mathlib.Core.List.{List, [], _∷_, _++_, map}
 use mathlib.Core.Bool.{Bool, true, false, cond, not, _&&_, _||_, false≢true}
 use native.Mathlib.Omega.{arith}
-use lib.ListN.{length, getD, set}
+use lib.ListN.{length, getD, set, replicate}
 use Rattle.lists.specs.declared.Found.the-variants.{At, Nothing}
 use Rattle.lists.specs.Search.{anyOf, allOf, countOf, placeFrom, placeOf, withoutFirst, Each}
 use Rattle.lists.proofs.TestLaws.{by-test, and-left, and-right, or-left, or-right}
@@ -19,6 +19,16 @@ module _ {A : Type 0} where
   pub all-of-each : (p : A → Bool) (xs : List A) → Each (λ (x : A). p x ≡ true) xs → allOf p xs ≡ true
   all-of-each p [] h = refl
   all-of-each p (x ∷ xs) h = ap₂ (λ (a b : Bool). a && b) (h .0) (all-of-each p xs (h .1))
+
+  -- ---- a test that only one value passes
+  pub all-are : (p : A → Bool) (one : A) → ((x : A) → p x ≡ true → x ≡ one) → (xs : List A) → allOf p xs ≡ true → xs ≡ replicate (length xs) one
+  all-are p one only [] h = refl
+  all-are p one only (x ∷ xs) h =
+      ap₂ (λ (y : A) (ys : List A). y ∷ ys) (only x (and-left (p x) (allOf p xs) h)) (all-are p one only xs (and-right (p x) (allOf p xs) h))
+
+  pub all-same : (p : A → Bool) (one : A) → p one ≡ true → (n : ℕ) → allOf p (replicate n one) ≡ true
+  all-same p one h zero = refl
+  all-same p one h (suc n) = ap₂ (λ (a b : Bool). a && b) h (all-same p one h n)
 
   -- ---- what holds of every element
   pub each-map : (P Q : A → Type 0) → ((x : A) → P x → Q x) → (xs : List A) → Each P xs → Each Q xs

@@ -1,6 +1,6 @@
 -- A file with other orders, and what it means that a file is well kept: the test `fileKept` and the facts behind it. Assumes nothing.
-use Prim.Native.Nat.{ℕ, zero, suc, _-_, _≤_}
-use mathlib.Core.Path.{_≡_, refl, sym, ap, ap₂, _∙_}
+use Prim.Native.Nat.{ℕ, _-_, _≤_}
+use mathlib.Core.Path.{_≡_, sym, ap, _∙_}
 use mathlib.Core.List.{List, [], _∷_, _++_}
 use mathlib.Core.Bool.{Bool, true}
 use native.Mathlib.Omega.{arith}
@@ -9,14 +9,16 @@ use lib.ListN.{length, drop, replicate, take-append-drop, length-append, length-
 use lib.Seq.{take-append-seam, drop-at}
 use borrow.Author.Tests.{leb-true, le-leb, eqb-true, eq-eqb}
 use Rattle.lists.specs.Search.{allOf}
-use Rattle.lists.proofs.TestLaws.{and-left, and-right, pass-each, each-pass}
+use Rattle.lists.proofs.TestLaws.{pass-each, each-pass}
+use Rattle.lists.proofs.SearchLaws.{all-are, all-same}
 use Rattle.days.specs.Days.{isDay}
 use Rattle.records.specs.Records.{aPremise, aRetailerOrNone}
 use Rattle.premise.specs.declared.Order.{Order}
 use Rattle.premise.specs.declared.File.{File}
-use Rattle.premise.specs.Orders.{mostOrders, businessDays, calendarDays, blank, held, places, withOrders}
+use Rattle.premise.specs.Orders.{mostOrders, blank, held, places, withOrders}
 use Rattle.premise.specs.WellKept.{orderKept, distinct, isBlank, fileKept, Tidy, FileKept}
 use Rattle.premise.specs.Laws.{KeptMeans}
+use Rattle.premise.proofs.Blank.{blank-is, blank-passes}
 
 -- ---- a file's places
 pub length-places : (os : List Order) → length os ≤ mostOrders → length (places os) ≡ mostOrders
@@ -44,36 +46,6 @@ pub length-orders : (f : File) → Tidy f → length (f .orders) ≡ mostOrders
 length-orders f t = ap length (t .whole) ∙ length-places (held f) (held-few f t)
 
 -- ---- the unused places
-blank-is : (o : Order) → isBlank o ≡ true → o ≡ blank
-unfolding isBlank
-blank-is o h =
-    let k =
-    pass-each (eqb (o .reference) 0)
-    (eqb (o .kind) 0 ∷ eqb (o .retailer) 0 ∷ eqb (o .requested) 0 ∷ eqb (o .scheduled) 0 ∷ eqb (o .status) 0
-    ∷ eqb (o .waited .0) 0 ∷ eqb (o .pending .0) 0 ∷ eqb (o .told) 0 ∷ []) h in
-    λ i.
-    record {
-      reference = eqb-true (o .reference) 0 (k .0) i;
-      kind = eqb-true (o .kind) 0 (k .1 .0) i;
-      retailer = eqb-true (o .retailer) 0 (k .1 .1 .0) i;
-      requested = eqb-true (o .requested) 0 (k .1 .1 .1 .0) i;
-      scheduled = eqb-true (o .scheduled) 0 (k .1 .1 .1 .1 .0) i;
-      status = eqb-true (o .status) 0 (k .1 .1 .1 .1 .1 .0) i;
-      waited = businessDays (eqb-true (o .waited .0) 0 (k .1 .1 .1 .1 .1 .1 .0) i);
-      pending = calendarDays (eqb-true (o .pending .0) 0 (k .1 .1 .1 .1 .1 .1 .1 .0) i);
-      told = eqb-true (o .told) 0 (k .1 .1 .1 .1 .1 .1 .1 .1 .0) i;
-    }
-
-blanks-are : (os : List Order) → allOf isBlank os ≡ true → os ≡ replicate (length os) blank
-blanks-are [] h = refl
-blanks-are (o ∷ os) h =
-    ap₂ (λ (x : Order) (xs : List Order). x ∷ xs) (blank-is o (and-left (isBlank o) (allOf isBlank os) h)) (blanks-are os (and-right (isBlank o) (allOf isBlank os) h))
-
-blanks-pass : (n : ℕ) → allOf isBlank (replicate n blank) ≡ true
-unfolding isBlank
-blanks-pass zero = refl
-blanks-pass (suc n) = blanks-pass n
-
 whole-of : (f : File) → f .count ≤ mostOrders → length (f .orders) ≡ mostOrders → allOf isBlank (drop (f .count) (f .orders)) ≡ true → f .orders ≡ places (held f)
 unfolding places
 whole-of f h e b =
@@ -81,7 +53,7 @@ whole-of f h e b =
     let m = length-drop (f .count) (f .orders) in
     let q : length (drop (f .count) (f .orders)) ≡ mostOrders - length (held f) = omega arith in
     sym (take-append-drop (f .count) (f .orders))
-    ∙ ap (λ (l : List Order). held f ++ l) (blanks-are (drop (f .count) (f .orders)) b ∙ ap (λ (n : ℕ). replicate n blank) q)
+    ∙ ap (λ (l : List Order). held f ++ l) (all-are isBlank blank blank-is (drop (f .count) (f .orders)) b ∙ ap (λ (n : ℕ). replicate n blank) q)
 
 unused-of : (f : File) → Tidy f → drop (f .count) (f .orders) ≡ replicate (mostOrders - length (held f)) blank
 unfolding places
@@ -120,7 +92,7 @@ unfolding fileKept
 file-test f k =
     let few = le-leb (f .count) mostOrders (k .tidy .few) in
     let long = eq-eqb (length (f .orders)) mostOrders (length-orders f (k .tidy)) in
-    let unused = ap (allOf isBlank) (unused-of f (k .tidy)) ∙ blanks-pass (mostOrders - length (held f)) in
+    let unused = ap (allOf isBlank) (unused-of f (k .tidy)) ∙ all-same isBlank blank blank-passes (mostOrders - length (held f)) in
     each-pass (aPremise (f .premise)) (tests f) (k .premise, (k .retailer, (k .since, (few, (long, (k .orders, (k .references, (unused, tt))))))))
 
 pub kept-means : KeptMeans

@@ -7,11 +7,6 @@ pub must : (other test : Bool) → (other ≡ false → test ≡ false) → test
 must true test h e = refl
 must false test h e = sym (h refl) ∙ e
 
--- where a test fails that would pass with another, the other fails
-pub must-not : (other test : Bool) → (other ≡ true → test ≡ true) → test ≡ false → other ≡ false
-must-not false test h e = refl
-must-not true test h e = sym (h refl) ∙ e
-
 -- one of two tests passes
 pub by-either : {X : Type 0} (a b : Bool) → (a || b) ≡ true → (a ≡ true → X) → (b ≡ true → X) → X
 by-either true b e h k = h refl

@@ -8,7 +8,7 @@ use Rattle.days.specs.Days.{lastDay}
 use Rattle.records.specs.declared.Record.{Record}
 use Rattle.records.specs.declared.Reading.{Reading}
 use Rattle.records.specs.declared.Reading.the-variants.{Malformed, Says}
-use Rattle.records.specs.Layout.{recordLength, zeroField, fieldOf}
+use Rattle.records.specs.Layout.{GoesInto, recordLength, kindField, detailField, dayField, referenceField, premiseField, retailerField, zeroField, fieldOf}
 use Rattle.records.specs.Records.{kindNewOrder, kindDayMark, standardSwitch, massTransitionDrop, replyReject, lastRetailer, wellFormed, fieldsOf}
 
 -- What a field holds, as facts; specs/Records.antt has the tests.
@@ -75,12 +75,12 @@ pub record Formed (r : Record) : Type 0 where
 
 -- each of a record's numbers goes into its field
 pub record InWidth (r : Record) : Type 0 where
-  pub kind : r .kind < 256
-  pub detail : r .detail < 256
-  pub day : r .day < 65536
-  pub reference : r .reference < 4294967296
-  pub premise : r .premise < 18446744073709551616
-  pub retailer : r .retailer < 4294967296
+  pub kind : GoesInto kindField (r .kind)
+  pub detail : GoesInto detailField (r .detail)
+  pub day : GoesInto dayField (r .day)
+  pub reference : GoesInto referenceField (r .reference)
+  pub premise : GoesInto premiseField (r .premise)
+  pub retailer : GoesInto retailerField (r .retailer)
 
 -- what is known of bytes that say a record
 pub record Said (bytes : List ℕ) (r : Record) : Type 0 where

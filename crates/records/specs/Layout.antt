@@ -1,5 +1,5 @@
 -- Document 01, "Records": 24 bytes, low byte first, no header. Each field's place and width stands here and nowhere else.
-use Prim.Native.Nat.{ℕ, zero, suc, _+_, _*_, _/_, _%_, _<_}
+use Prim.Native.Nat.{ℕ, zero, suc, _+_, _*_, _/_, _%_, _^_, _<_}
 use mathlib.Core.List.{List, [], _∷_}
 use lib.ListN.{take, drop}
 
@@ -32,6 +32,10 @@ retailerField = record { start = 16; width = 4 }
 
 abbrev pub zeroField : Field
 zeroField = record { start = 20; width = 4 }
+
+-- a number goes into a field
+abbrev pub GoesInto : Field → ℕ → Type 0
+GoesInto field n = n < 256 ^ field .width
 
 -- every number of a list is a byte
 abbrev pub Bytes : List ℕ → Type 0

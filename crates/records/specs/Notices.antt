@@ -1,10 +1,10 @@
 -- Document 01, "Records", its last paragraph: notices use the record's layout.
-use Prim.Native.Nat.{ℕ, zero, suc, _*_, _<_}
+use Prim.Native.Nat.{ℕ, zero, suc, _*_}
 use mathlib.Core.Path.{_≡_}
 use mathlib.Core.List.{List, [], _∷_, _++_}
 use lib.ListN.{length, take, drop}
 use Rattle.records.specs.declared.Notice.{Notice}
-use Rattle.records.specs.Layout.{recordLength, kindField, detailField, dayField, referenceField, premiseField, retailerField, zeroField, bytesOf, fieldOf}
+use Rattle.records.specs.Layout.{GoesInto, recordLength, kindField, detailField, dayField, referenceField, premiseField, retailerField, zeroField, bytesOf, fieldOf}
 
 -- The addressee 0 is the TDSP, the wires company.
 abbrev pub tdsp : ℕ
@@ -39,12 +39,12 @@ decode bytes =
 
 -- each of a notice's numbers goes into its field
 pub record FitsFields (n : Notice) : Type 0 where
-  pub code : n .code < 256
-  pub kind : n .kind < 256
-  pub day : n .day < 65536
-  pub reference : n .reference < 4294967296
-  pub premise : n .premise < 18446744073709551616
-  pub addressee : n .addressee < 4294967296
+  pub code : GoesInto kindField (n .code)
+  pub kind : GoesInto detailField (n .kind)
+  pub day : GoesInto dayField (n .day)
+  pub reference : GoesInto referenceField (n .reference)
+  pub premise : GoesInto premiseField (n .premise)
+  pub addressee : GoesInto retailerField (n .addressee)
 
 -- Reading what was written gives the notice again; proofs/Notices.antt proves it.
 abbrev pub ReadsBack : Type 0

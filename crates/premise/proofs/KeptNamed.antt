@@ -1,7 +1,7 @@
 -- Kinds 4 to 9 leave a well-kept file: the order that they name stands in its place with its reference, kept; a meter read takes R from an
 -- order's Q and S from the record's day, both in range. Assumes nothing.
 use Prim.Native.Nat.{ℕ, _<_}
-use mathlib.Core.Path.{_≡_, refl, ap, _∙_}
+use mathlib.Core.Path.{_≡_, refl, sym, ap, _∙_}
 use mathlib.Core.List.{List}
 use mathlib.Core.Bool.{true, false, not, _&&_}
 use lib.Dec.{leb}
@@ -26,7 +26,8 @@ use Rattle.premise.proofs.KeptOrders.{OrderKept, orders-facts}
 use Rattle.premise.proofs.KeptChanges.{Leaves, LeavesBy, leaves-scheduled, leaves-permit, leaves-unexecutable, leaves-read, leaves-cancel, leaves-reply}
 use Rattle.premise.proofs.KeptReferences.{hasReference}
 use Rattle.premise.proofs.KeptPasses.{LeavesAll, HeaderKept, header-of, kept-after}
-use Rattle.premise.proofs.KeptRecords.{scheduled-fits, read-fits, permit-taken, read-taken}
+use Rattle.premise.proofs.KeptRecords.{scheduled-fits, read-fits}
+use Rattle.premise.proofs.Taken.{taken-permit, taken-read}
 
 -- ---- the order that is named; row 14 did not hold
 module _ (f : File) (r : Record) (o : Order) (w : wellFormed r ≡ true) (n : (namesOrder r && not (taken r o)) ≡ false) (k : OrderKept o) where
@@ -37,7 +38,7 @@ module _ (f : File) (r : Record) (o : Order) (w : wellFormed r ≡ true) (n : (n
 
   permit-leaves : is kindPermit r ≡ true → Leaves o (onPermit f r o .order)
   permit-leaves e =
-      let t = permit-taken r o (is-taken kindPermit e refl) e in
+      let t = sym (taken-permit r o (eqb-true (r .kind) kindPermit e)) ∙ is-taken kindPermit e refl in
       leaves-permit f r o k (and-left (hasKind moveIn o) (hasStatus inReview o) t) (and-right (hasKind moveIn o) (hasStatus inReview o) t)
 
   pub order-leaves : Leaves o (onOrder f r o .order)
@@ -46,7 +47,7 @@ module _ (f : File) (r : Record) (o : Order) (w : wellFormed r ≡ true) (n : (n
       by-test (LeavesBy o) (is kindScheduled r) _ _ (λ e. leaves-scheduled f r o k (scheduled-fits r w e .day))
       (λ q. by-test (LeavesBy o) (is kindPermit r) _ _ permit-leaves
       (λ q. by-test (LeavesBy o) (is kindUnexecutable r) _ _ (λ e. leaves-unexecutable f r o k)
-      (λ q. by-test (LeavesBy o) (is kindRead r) _ _ (λ e. leaves-read f r o k (read-fits r w e .day) (read-taken r o (is-taken kindRead e refl) e))
+      (λ q. by-test (LeavesBy o) (is kindRead r) _ _ (λ e. leaves-read f r o k (read-fits r w e .day) (sym (taken-read r o (eqb-true (r .kind) kindRead e)) ∙ is-taken kindRead e refl))
       (λ q. by-test (LeavesBy o) (is kindCancel r) _ _ (λ e. leaves-cancel f r o k)
       (λ q. leaves-reply f r o k)))))
 

@@ -1,29 +1,25 @@
 -- What an accepted record says: the fields that its kind gives it, if it is well formed, and that no row of the table of refusals held.
 -- Assumes nothing.
 use Prim.Native.Nat.{ℕ, _+_}
-use mathlib.Core.Path.{_≡_, refl, sym, subst, _∙_}
+use mathlib.Core.Path.{_≡_, refl, sym, _∙_}
 use mathlib.Core.List.{List, [], _∷_}
 use mathlib.Core.Option.{Option}
-use mathlib.Core.Bool.{Bool, true, false, cond, not, _&&_, _||_, or-false, false≢true}
+use mathlib.Core.Bool.{Bool, true, false, cond, not, _&&_, _||_, false≢true}
 use lib.Dec.{eqb}
 use borrow.Author.Tests.{eqb-true}
 use Rattle.lists.specs.Search.{anyOf, countOf, Each}
 use Rattle.lists.proofs.TestLaws.{pass-each}
 use Rattle.days.specs.Days.{noDay, isDay, switchDate}
 use Rattle.records.specs.declared.Record.{Record}
-use Rattle.records.specs.Records.{kindCreate, kindRetire, kindNewOrder, kindScheduled, kindPermit, kindRead, kindCancel, kindDayMark, moveIn, standardSwitch, aReference, aPremise, aRetailer, aRetailerOrNone, anOrderKind, orderDay, unused, wellFormed}
-use Rattle.premise.specs.declared.Order.{Order}
+use Rattle.records.specs.Records.{kindCreate, kindRetire, kindNewOrder, kindScheduled, kindRead, kindCancel, kindDayMark, standardSwitch, aReference, aPremise, aRetailer, aRetailerOrNone, anOrderKind, orderDay, unused, wellFormed}
+use Rattle.records.proofs.ByKind.{formed-at}
 use Rattle.premise.specs.declared.File.{File}
-use Rattle.premise.specs.Orders.{mostOrders, inReview, permitPending, scheduled, isOpen, hasStatus, hasKind}
+use Rattle.premise.specs.Orders.{mostOrders, isOpen}
 use Rattle.premise.specs.Steps.{is, requestedDay, named, orderAt, taken}
 use Rattle.premise.specs.FirstIn.{notFirstIn}
 use Rattle.premise.specs.Refusals.{Row, number, firstRow, premiseRows, orderRows, rows, isHeld, ordersOf, isNothing, needsPremise, namesOrder, limited, outOfRange}
 
 -- ---- a well-formed record of a kind
--- a record with its kind written in it: the tests on the kind then compute
-abbrev ofKind : ℕ → Record → Record
-ofKind kind r = record { kind = kind; detail = r .detail; day = r .day; reference = r .reference; premise = r .premise; retailer = r .retailer }
-
 -- what its fields hold, each by its test
 pub record Fits (details days references premises retailers : ℕ → Bool) (r : Record) : Type 0 where
   pub detail : details (r .detail) ≡ true
@@ -40,37 +36,17 @@ fields details days references premises retailers r h =
     record { detail = k .0; day = k .1 .0; reference = k .1 .1 .0; premise = k .1 .1 .1 .0; retailer = k .1 .1 .1 .1 .0 }
 
 module _ (r : Record) (w : wellFormed r ≡ true) where
-  formed : (kind : ℕ) → is kind r ≡ true → wellFormed (ofKind kind r) ≡ true
-  formed kind e = subst (λ (k : ℕ). wellFormed (ofKind k r) ≡ true) (eqb-true (r .kind) kind e) w
-
   pub create-fits : is kindCreate r ≡ true → Fits unused isDay unused aPremise aRetailerOrNone r
-  unfolding wellFormed
-  create-fits e = fields unused isDay unused aPremise aRetailerOrNone r (simp or-false at (formed kindCreate e))
+  create-fits e = fields unused isDay unused aPremise aRetailerOrNone r (sym (formed-at kindCreate r (eqb-true (r .kind) kindCreate e)) ∙ w)
 
   pub order-fits : is kindNewOrder r ≡ true → Fits anOrderKind (orderDay (r .detail)) aReference aPremise aRetailer r
-  unfolding wellFormed
-  order-fits e = fields anOrderKind (orderDay (r .detail)) aReference aPremise aRetailer r (simp or-false at (formed kindNewOrder e))
+  order-fits e = fields anOrderKind (orderDay (r .detail)) aReference aPremise aRetailer r (sym (formed-at kindNewOrder r (eqb-true (r .kind) kindNewOrder e)) ∙ w)
 
   pub scheduled-fits : is kindScheduled r ≡ true → Fits unused isDay aReference aPremise unused r
-  unfolding wellFormed
-  scheduled-fits e = fields unused isDay aReference aPremise unused r (simp or-false at (formed kindScheduled e))
+  scheduled-fits e = fields unused isDay aReference aPremise unused r (sym (formed-at kindScheduled r (eqb-true (r .kind) kindScheduled e)) ∙ w)
 
   pub read-fits : is kindRead r ≡ true → Fits unused isDay aReference aPremise unused r
-  unfolding wellFormed
-  read-fits e = fields unused isDay aReference aPremise unused r (simp or-false at (formed kindRead e))
-
--- ---- from which statuses kinds 5 and 7 are taken
-module _ (r : Record) (o : Order) (t : taken r o ≡ true) where
-  taken-by : (kind : ℕ) → is kind r ≡ true → taken (ofKind kind r) o ≡ true
-  taken-by kind e = subst (λ (k : ℕ). taken (ofKind k r) o ≡ true) (eqb-true (r .kind) kind e) t
-
-  pub permit-taken : is kindPermit r ≡ true → (hasKind moveIn o && hasStatus inReview o) ≡ true
-  unfolding taken
-  permit-taken e = simp or-false at (taken-by kindPermit e)
-
-  pub read-taken : is kindRead r ≡ true → (hasStatus scheduled o || hasStatus permitPending o) ≡ true
-  unfolding taken
-  read-taken e = simp or-false at (taken-by kindRead e)
+  read-fits e = fields unused isDay aReference aPremise unused r (sym (formed-at kindRead r (eqb-true (r .kind) kindRead e)) ∙ w)
 
 -- ---- no row held
 abbrev Refuses : Row → Type 0

@@ -5,6 +5,7 @@ pub mod KeptChanges
 pub mod KeptReferences
 pub mod KeptPasses
 pub mod KeptRecords
+pub mod Taken
 pub mod KeptNew
 pub mod KeptNamed
 pub mod KeptSteps

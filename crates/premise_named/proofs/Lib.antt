@@ -1,3 +1,3 @@
-pub mod Taken
+pub mod Statuses
 pub mod Rows
 pub mod Supplied

@@ -1,6 +1,6 @@
 -- `premise_named::is_one_of` meets its contract: at each return the tests that led there decide. Assumes nothing.
 use borrow.Author.Tests.{eq-eqb, ne-eqb}
-use Rattle.premise_named.proofs.Taken.{one-of-third}
+use Rattle.premise_named.proofs.Statuses.{one-of-third}
 use Rattle.premise_named.proofs.is_one_of.Statement.{statement}
 use Rattle.premise_named.proofs.is_one_of.Tie as tie
 

@@ -2,7 +2,8 @@
 use mathlib.Core.Path.{sym, _∙_}
 use borrow.Author.Needs.{needs}
 use Rattle.premise.specs.Orders.{permitPending, scheduled, hasStatus}
-use Rattle.premise_named.proofs.Taken.{taken-scheduled, taken-permit, taken-unexecutable, taken-read, taken-cancel, taken-reply, taken-none, or-twice}
+use Rattle.premise.proofs.Taken.{taken-scheduled, taken-permit, taken-unexecutable, taken-read, taken-cancel, taken-reply, taken-none}
+use Rattle.premise_named.proofs.Statuses.{or-twice}
 use Rattle.premise_named.proofs.is_taken.Statement.{statement}
 use Rattle.premise_named.proofs.is_taken.Tie as tie
 

@@ -1,24 +1,18 @@
 -- From which statuses, and for which kinds of order, a record is taken, by the record's kind. Assumes nothing.
 use Prim.Native.Nat.{ℕ}
-use mathlib.Core.Path.{_≡_, refl, ap, _∙_}
-use mathlib.Core.Bool.{Bool, true, false, _&&_, _||_, or-false}
-use lib.Dec.{eqb}
+use mathlib.Core.Path.{_≡_, ap, _∙_}
+use mathlib.Core.Bool.{false, _&&_, _||_, or-false}
 use borrow.Author.Tests.{ne-eqb}
 use Rattle.records.specs.declared.Record.{Record}
 use Rattle.records.specs.Records.{kindScheduled, kindPermit, kindUnexecutable, kindRead, kindCancel, kindReply, moveIn}
 use Rattle.premise.specs.declared.Order.{Order}
 use Rattle.premise.specs.Orders.{inReview, permitPending, scheduled, cancelPending, hasStatus, hasKind, isOpen}
 use Rattle.premise.specs.Steps.{taken}
 
 -- a record with its kind written in it: the tests on the kind then compute
 abbrev ofKind : ℕ → Record → Record
 ofKind kind r = record { kind = kind; detail = r .detail; day = r .day; reference = r .reference; premise = r .premise; retailer = r .retailer }
 
--- ---- a status among three
-pub one-of-third : (status first second third : ℕ) → (status ≡ first → ⊥) → (status ≡ second → ⊥) → eqb status third ≡ (eqb status first || eqb status second || eqb status third)
-one-of-third status first second third n m = simp (ne-eqb status first n, ne-eqb status second m)
-
--- ---- which statuses a kind is taken from
 module _ (r : Record) (o : Order) where
   taken-by : (kind : ℕ) → r .kind ≡ kind → taken r o ≡ taken (ofKind kind r) o
   taken-by kind e = ap (λ (k : ℕ). taken (ofKind k r) o) e
@@ -52,9 +46,3 @@ module _ (r : Record) (o : Order) where
   unfolding taken
   taken-none s p u m c a =
       simp (ne-eqb (r .kind) kindScheduled s, ne-eqb (r .kind) kindPermit p, ne-eqb (r .kind) kindUnexecutable u, ne-eqb (r .kind) kindRead m, ne-eqb (r .kind) kindCancel c, ne-eqb (r .kind) kindReply a)
-
--- one test twice says no more
-pub or-twice : (a b : Bool) → (a || b || b) ≡ (a || b)
-or-twice true b = refl
-or-twice false true = refl
-or-twice false false = refl

@@ -1,5 +1,4 @@
-// The premise layer's face for the layer above, with `record_bytes::read_record`, `premise_kept::file_kept` and `premise_marks::mark`:
-// `on_record`, a record on a file or none. Everything else here is inner.
+// The premise layer, called by the layer above: `on_record`, a record on a file or none. Everything else here is inner.
 ghost use mathlib.Core.Path.{_≡_};
 ghost use mathlib.Core.Bool.{false};
 ghost use mathlib.Core.Option.{some};

@@ -31,7 +31,7 @@ fn make(place: u64, b: Book, calendar: &[u8], bytes: &[u8], buffer: &mut [u8]) {
     fill(buffer);
     let reply = book_calls::record_call(calendar, b, bytes, buffer);
     let answer = reply.answer;
-    let number = tape_lines::number_of(answer);
+    let number = premise_answers::number_of(answer);
     call_lines::say(b'c', &[place, number as u64, reply.sent as u64]);
     call_lines::say_notices(buffer, reply.sent);
     call_lines::say_changed(buffer, reply.sent, PATTERN);

@@ -21,30 +21,6 @@ pub struct Told {
     pub stop: usize,
 }
 
-// The number of an answer.
-pub fn number_of(answer: Answer) -> u8
-    ensures { λ n. ⌜ n ≡ number answer ⌝ }
-{
-    match answer {
-        Answer::Accepted => 0,
-        Answer::ShortBuffer => 1,
-        Answer::NotWellKept => 2,
-        Answer::MalformedRecord => 3,
-        Answer::NoSuchPremise => 4,
-        Answer::PremiseHeld => 5,
-        Answer::BookFull => 6,
-        Answer::OrderOpen => 7,
-        Answer::ReferenceHeld => 8,
-        Answer::DayOutOfRange => 9,
-        Answer::NoSwitchDate => 10,
-        Answer::NotFirstIn => 11,
-        Answer::StackFull => 12,
-        Answer::NoSuchOrder => 13,
-        Answer::StatusNotTaken => 14,
-        Answer::NotNextDay => 15,
-    }
-}
-
 // The lines of the first n notices of a buffer.
 fn put_notices(notices: &[u8], n: usize, start: usize, out: &mut [u8]) -> usize
     requires { ⌜ (recordLength * n ≤ length (now notices)) × (start + noticeLineMost * n ≤ length (now out)) ⌝ }
@@ -74,7 +50,7 @@ pub fn show(
     requires { ⌜ Within reader × (sent ≤ mostNotices) × (recordLength * sent ≤ length (now notices)) × (start + recordTextMost ≤ length (now out)) ⌝ }
     ensures { λ t. ⌜ (t .reader ≡ counted reader (number answer)) × Puts start (now (out .entry)) (now (out .exit)) (t .stop) (recordLine (t .reader .place) (number answer) sent ++ rowLines (rows sent (now (notices .entry)))) ⌝ }
 {
-    let number = number_of(answer);
+    let number = premise_answers::number_of(answer);
     let next = tape_reader::advanced(reader, number);
     let at = tape_text::put_record(next.place, number, sent, start, out);
     let stop = put_notices(notices, sent, at, out);

@@ -1,9 +1,9 @@
--- `tape_lines::number_of` meets its contract: each answer's number is the definition's. Assumes nothing.
+-- `premise_answers::number_of` meets its contract: each answer's number is the definition's. Assumes nothing.
 use mathlib.Core.Path.{sym, ap}
 use borrow.Author.Needs.{needs}
 use Rattle.premise.specs.Refusals.{number}
-use Rattle.tape_lines.proofs.number_of.Statement.{statement}
-use Rattle.tape_lines.proofs.number_of.Tie as tie
+use Rattle.premise_answers.proofs.number_of.Statement.{statement}
+use Rattle.premise_answers.proofs.number_of.Tie as tie
 
 returns : tie.Need-returns
 unfolding number

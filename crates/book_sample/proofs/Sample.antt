@@ -17,7 +17,7 @@ use Rattle.records.specs.Notices.{encode}
 use Rattle.premise.specs.Orders.{places}
 use Rattle.premise.specs.Steps.{requestedDay, makeRoom, ordered, taken, onScheduled, onPermit, onUnexecutable, onRead, supplied, onCancel, onReply, onOrder, changed}
 use Rattle.premise.specs.Clock.{reviewed, permitAwaited, cancelAwaited, ticked}
-use Rattle.premise.specs.Evaluation.{contends, kept, settled, displaced, dropped, overtaken, lapsed, due, told, evaluation}
+use Rattle.premise.specs.Evaluation.{contends, kept, givesWay, settled, displaced, dropped, overtaken, lapsed, due, told, evaluation}
 use Rattle.premise.specs.FirstIn.{refuses, standsInWay, notFirstIn}
 use Rattle.premise.specs.WellKept.{orderKept, isBlank, fileKept, fileBlank}
 use Rattle.premise.specs.Refusals.{number, premiseRows, orderRows}
@@ -61,7 +61,7 @@ plays-allowed calendar b (bytes ∷ tape) e =
 
 -- ---- the sample
 pub comes : Comes
-unfolding reviewed permitAwaited cancelAwaited ticked contends kept settled displaced dropped overtaken lapsed due told evaluation refuses standsInWay notFirstIn marked stepped step places number premiseRows orderRows requestedDay makeRoom ordered taken onScheduled onPermit onUnexecutable onRead supplied onCancel onReply onOrder changed orderKept isBlank fileKept fileBlank fieldOf encode wellFormed reading kindOfDay isBusinessDay switchDate businessDays inWindow bookOf bookKept fileFor putIn takenOut callRows call lent made plays create7 create5 order7 order5 scheduled7 scheduled5 mark1 malformed calendar tape sample shuffled again ordered7 dated7 losing7 ordered5 dated5 losing5 buffers allows
+unfolding reviewed permitAwaited cancelAwaited ticked contends kept givesWay settled displaced dropped overtaken lapsed due told evaluation refuses standsInWay notFirstIn marked stepped step places number premiseRows orderRows requestedDay makeRoom ordered taken onScheduled onPermit onUnexecutable onRead supplied onCancel onReply onOrder changed orderKept isBlank fileKept fileBlank fieldOf encode wellFormed reading kindOfDay isBusinessDay switchDate businessDays inWindow bookOf bookKept fileFor putIn takenOut callRows call lent made plays create7 create5 order7 order5 scheduled7 scheduled5 mark1 malformed calendar tape sample shuffled again ordered7 dated7 losing7 ordered5 dated5 losing5 buffers allows
 comes = record { answers7 = refl; answers5 = refl; answers6 = refl; notices7 = refl; notices5 = refl; notices6 = refl; all = refl; allowed = refl; allowed-again = refl }
 
 -- ---- every premise has the same records in both lists, in the same order

@@ -8,6 +8,7 @@ use lib.Dec.{leb}
 use borrow.Author.Tests.{le-leb, lt-leb, leb-true, leb-false}
 use Rattle.days.specs.Days.{lastDay, isDay, isBusinessDay}
 use Rattle.days.specs.Window.{businessDays, inWindow, LastInWindow}
+use Rattle.days.specs.Laws.{WindowIsUpTo}
 use Rattle.days.proofs.Laws.{count-end, count-here, count-next}
 
 and-no : (b : Bool) → (b && false) ≡ false
@@ -68,3 +69,7 @@ module _ (calendar : List ℕ) (width today left day : ℕ) (p : Passing calenda
       go : (b : Bool) → leb to lastDay ≡ b → inWindow calendar width today to ≡ b
       go true h = simp (h, le-leb (businessDays calendar today to) width (p .behind to (omega (arith, leb-true to lastDay h))))
       go false h = simp (h)
+
+-- two tests that agree on every day are one
+pub window-is-up-to : WindowIsUpTo
+window-is-up-to calendar width today last window = λ i scheduled. window scheduled i

@@ -5,7 +5,7 @@ use mathlib.Core.Logic.{_⊎_}
 use mathlib.Core.List.{List}
 use mathlib.Core.Bool.{true, false}
 use Rattle.days.specs.Days.{lastDay, noDay, startsSwitches, switchDate}
-use Rattle.days.specs.Window.{inWindow}
+use Rattle.days.specs.Window.{inWindow, upTo, LastInWindow}
 
 -- no switches start on the days from one up to but not including another
 abbrev pub NoneBefore : List ℕ → ℕ → ℕ → Type 0
@@ -30,3 +30,7 @@ SwitchDateIs = (calendar : List ℕ) (today : ℕ) → FirstStart calendar today
 -- a scheduled day at or before today is in window, whatever the width
 abbrev pub PastInWindow : Type 0
 PastInWindow = (calendar : List ℕ) (width today scheduled : ℕ) → scheduled ≤ lastDay → scheduled ≤ today → inWindow calendar width today scheduled ≡ true
+
+-- by the last day in window, in window is one test with up to that day: what is said of the one is said of the other
+abbrev pub WindowIsUpTo : Type 0
+WindowIsUpTo = (calendar : List ℕ) (width today last : ℕ) → LastInWindow calendar width today last → inWindow calendar width today ≡ upTo last

@@ -23,6 +23,10 @@ windowWidth = 2
 unfoldable pub inWindow : List ℕ → ℕ → ℕ → ℕ → Bool
 inWindow calendar width today scheduled = isDay scheduled && leb (businessDays calendar today scheduled) width
 
+-- a scheduled day up to a last one
+abbrev pub upTo : ℕ → ℕ → Bool
+upTo last = λ (scheduled : ℕ). leb scheduled last
+
 -- The last day in window: a scheduled day is in window exactly up to it. So the window is looked for once, and not for every order.
 abbrev pub LastInWindow : List ℕ → ℕ → ℕ → ℕ → Type 0
-LastInWindow calendar width today last = (scheduled : ℕ) → inWindow calendar width today scheduled ≡ leb scheduled last
+LastInWindow calendar width today last = (scheduled : ℕ) → inWindow calendar width today scheduled ≡ upTo last scheduled

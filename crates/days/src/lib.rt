@@ -1,5 +1,5 @@
 // The days layer. A calendar is lent bytes, one per day; each function answers for every calendar and every day number.
-// Its face: `is_day`, `kind_of_day`, `is_business_day`, `switch_date`, `last_in_window`, the numbers below, and `day_window::in_window`.
+// Its face: `is_day`, `kind_of_day`, `is_business_day`, `switch_date`, `last_in_window`, and the numbers below.
 ghost use mathlib.Core.Path.{_≡_};
 ghost use Rattle.days.specs.Days.{isDay, kindOfDay, isBusinessDay, switchDate};
 ghost use Rattle.days.specs.Window.{LastInWindow};

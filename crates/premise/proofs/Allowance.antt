@@ -6,16 +6,17 @@ use mathlib.Core.Bool.{Bool, true, false, cond, not, _&&_, _||_, or-true, and-fa
 use native.Mathlib.Nat.{le-refl}
 use native.Mathlib.Omega.{arith}
 use lib.ListN.{length, length-append}
+use lib.Dec.{leb}
 use borrow.Author.Tests.{eqb-true}
-use Rattle.lists.specs.Search.{allOf}
+use Rattle.lists.specs.Search.{allOf, isAt}
 use Rattle.days.specs.Days.{noDay, isDay}
-use Rattle.days.specs.Window.{inWindow}
+use Rattle.days.specs.Window.{businessDays, inWindow}
 use Rattle.records.specs.declared.Notice.{Notice}
 use Rattle.premise.specs.declared.Order.{Order}
-use Rattle.premise.specs.Orders.{inReview, permitPending, scheduled, cancelPending, cancelled, hasStatus}
+use Rattle.premise.specs.Orders.{inReview, permitPending, scheduled, cancelPending, cancelled, hasStatus, isSwitch}
 use Rattle.premise.specs.Passes.{Change, passFrom}
 use Rattle.premise.specs.Clock.{toCancelPending, ticked, reviewed, permitAwaited, cancelAwaited}
-use Rattle.premise.specs.Evaluation.{settled, dropped, lapsed, told, contends, displaced, overtaken, due}
+use Rattle.premise.specs.Evaluation.{isStanding, contends, kept, givesWay, settled, displaced, dropped, overtaken, lapsed, due, told}
 use Rattle.premise.specs.WellKept.{dayFits, orderKept}
 use Rattle.lists.proofs.TestLaws.{by-test, and-left, and-right}
 use Rattle.premise.proofs.Tests.{must, by-either}
@@ -154,19 +155,27 @@ ticked-few business today premise o h =
     (λ m. by-test (Sends atSettling 2) (hasStatus cancelPending o) _ _ (λ e. cancel-few premise o) (λ e. sends-none (settling-most o))))
 
 -- ---- the four passes, one order each
-contends-two : (calendar : List ℕ) (today : ℕ) (o : Order) (also : Bool) → (contends calendar today o && also) ≡ true → atSettling o ≡ 2
-unfolding contends inWindow
-contends-two calendar today o also h =
-    let e : contends calendar today o ≡ true = and-left (contends calendar today o) also h in
-    let day : isDay (o .scheduled) ≡ true = must (isDay (o .scheduled)) (contends calendar today o) (λ n. simp (n, and-false)) e in
-    by-either (hasStatus scheduled o) (hasStatus cancelPending o) (must (hasStatus scheduled o || hasStatus cancelPending o) (contends calendar today o) (λ n. simp (n, and-false)) e)
+-- a test on scheduled days that only days pass
+abbrev pub OnlyDays : (ℕ → Bool) → Type 0
+OnlyDays near = (day : ℕ) → near day ≡ true → isDay day ≡ true
+
+pub window-days : (calendar : List ℕ) (width today : ℕ) → OnlyDays (inWindow calendar width today)
+unfolding inWindow
+window-days calendar width today day e = and-left (isDay day) (leb (businessDays calendar today day) width) e
+
+way-two : (near : ℕ → Bool) → OnlyDays near → (os : List Order) (i : ℕ) (o : Order) → givesWay near os i o ≡ true → atSettling o ≡ 2
+unfolding givesWay contends
+way-two near only os i o h =
+    let e : contends near o ≡ true = and-left (contends near o) (not (isAt (kept near os (o .scheduled)) i)) h in
+    let day : isDay (o .scheduled) ≡ true = only (o .scheduled) (and-right (isSwitch o && isStanding o) (near (o .scheduled)) e) in
+    by-either (hasStatus scheduled o) (hasStatus cancelPending o) (must (isStanding o) (contends near o) (λ n. simp (n, and-false)) e)
     (λ h. two-left o (rw h refl))
     (λ h. rw (eqb-true (o .status) cancelPending h, day))
 
-displaced-two : (calendar : List ℕ) (today : ℕ) (os : List Order) (o : Order) → displaced calendar today os o ≡ true → atDropping o ≡ 2
+displaced-two : (near : ℕ → Bool) (os : List Order) (o : Order) → displaced near os o ≡ true → atDropping o ≡ 2
 unfolding displaced
-displaced-two calendar today os o e =
-    let h : hasStatus scheduled o ≡ true = must (hasStatus scheduled o) (displaced calendar today os o) (λ n. simp (n, and-false)) e in
+displaced-two near os o e =
+    let h : hasStatus scheduled o ≡ true = must (hasStatus scheduled o) (displaced near os o) (λ n. simp (n, and-false)) e in
     rw h
 
 overtaken-two : (today : ℕ) (os : List Order) (o : Order) → overtaken today os o ≡ true → atDropping o ≡ 2
@@ -175,18 +184,18 @@ overtaken-two today os o e =
     let h : hasStatus permitPending o ≡ true = must (hasStatus permitPending o) (overtaken today os o) (λ n. simp (n, and-false)) e in
     rw (h, or-true)
 
-due-one : (calendar : List ℕ) (today : ℕ) (o : Order) → due calendar today o ≡ true → atTelling o ≡ 1
+due-one : (near : ℕ → Bool) (o : Order) → due near o ≡ true → atTelling o ≡ 1
 unfolding due
-due-one calendar today o e =
-    let h : hasStatus scheduled o ≡ true = must (hasStatus scheduled o) (due calendar today o) (λ n. simp n) e in
+due-one near o e =
+    let h : hasStatus scheduled o ≡ true = must (hasStatus scheduled o) (due near o) (λ n. simp n) e in
     rw h
 
-module _ (calendar : List ℕ) (today premise retailer : ℕ) (os : List Order) (i : ℕ) (o : Order) where
-  pub settled-few : Sends atDropping (atSettling o) (settled calendar today premise os i o)
+module _ (near : ℕ → Bool) (only : OnlyDays near) (today premise retailer : ℕ) (os : List Order) (i : ℕ) (o : Order) where
+  pub settled-few : Sends atDropping (atSettling o) (settled near premise os i o)
   unfolding settled
-  settled-few = search (few, sends-either, sends-two, sends-none, contends-two, dropping-settling)
+  settled-few = search (few, sends-either, sends-two, sends-none, way-two near only, dropping-settling)
 
-  pub dropped-few : Sends atDropping (atDropping o) (dropped calendar today premise retailer os o)
+  pub dropped-few : Sends atDropping (atDropping o) (dropped near premise retailer os o)
   unfolding dropped
   dropped-few = search (few, sends-either, sends-two, sends-none, displaced-two, le-refl) depth 6
 
@@ -194,6 +203,6 @@ module _ (calendar : List ℕ) (today premise retailer : ℕ) (os : List Order) 
   unfolding lapsed
   lapsed-few = search (few, sends-either, sends-two, sends-none, overtaken-two, telling-dropping)
 
-  pub told-few : Sends done (atTelling o) (told calendar today premise retailer o)
+  pub told-few : Sends done (atTelling o) (told near premise retailer o)
   unfolding told
   told-few = search (few, sends-either, sends-one, sends-none, due-one, zero-le)

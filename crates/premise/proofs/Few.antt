@@ -3,13 +3,14 @@ use Prim.Native.Nat.{ℕ, _*_, _≤_, _<_}
 use mathlib.Core.Path.{_≡_, sym, ap, _∙_}
 use mathlib.Core.List.{List, [], _∷_, _++_}
 use mathlib.Core.Option.{Option, none, some}
-use mathlib.Core.Bool.{true, false, cond, true≢false}
+use mathlib.Core.Bool.{Bool, true, false, cond, true≢false}
 use native.Mathlib.Omega.{arith}
 use lib.Dec.{eqb}
 use lib.ListN.{length, set, length-append, length-set}
 use Rattle.lists.specs.declared.Found.{Found}
 use Rattle.lists.specs.declared.Found.the-variants.{At, Nothing}
 use Rattle.days.specs.Days.{isBusinessDay}
+use Rattle.days.specs.Window.{windowWidth, inWindow}
 use Rattle.records.specs.declared.Record.{Record}
 use Rattle.records.specs.Records.{kindCreate, kindRetire, kindNewOrder, kindDayMark}
 use Rattle.premise.specs.declared.Order.{Order}
@@ -26,33 +27,33 @@ use Rattle.premise.specs.Laws.{Held, mostOfRecord, MarkFew, StepFew}
 use Rattle.lists.proofs.TestLaws.{by-test}
 use Rattle.premise.proofs.KeptFiles.{held-with}
 use Rattle.premise.proofs.Room.{held-most, accepted-room}
-use Rattle.premise.proofs.Allowance.{Sends, few, sends-two, sends-either, total, pass-few, each-few, atMark, atSettling, atDropping, atTelling, done, settling-most, ticked-few, settled-few, dropped-few, lapsed-few, told-few}
+use Rattle.premise.proofs.Allowance.{OnlyDays, window-days, Sends, few, sends-two, sends-either, total, pass-few, each-few, atMark, atSettling, atDropping, atTelling, done, settling-most, ticked-few, settled-few, dropped-few, lapsed-few, told-few}
 
 total-most : (most : Order → ℕ) → ((o : Order) → most o ≤ 2) → (os : List Order) → total most os ≤ 2 * length os
 total-most most h [] = omega arith
 total-most most h (o ∷ os) = omega (arith, h o, total-most most h os)
 
 -- ---- the evaluation
-evaluation-few : (calendar : List ℕ) (today premise retailer : ℕ) (os : List Order) → length (evaluation calendar today premise retailer os .notices) ≤ total atSettling os
+evaluation-few : (near : ℕ → Bool) → OnlyDays near → (today premise retailer : ℕ) (os : List Order) → length (evaluation near today premise retailer os .notices) ≤ total atSettling os
 unfolding evaluation
-evaluation-few calendar today premise retailer os =
-    let one : Outcome = settle calendar today premise os in
-    let two : Outcome = dropDrops calendar today premise retailer (one .orders) in
+evaluation-few near only today premise retailer os =
+    let one : Outcome = settle near premise os in
+    let two : Outcome = dropDrops near premise retailer (one .orders) in
     let three : Outcome = lapse today premise (two .orders) in
-    let four : Outcome = tell calendar today premise retailer (three .orders) in
+    let four : Outcome = tell near premise retailer (three .orders) in
     omega (
       arith,
-      each-few atSettling atDropping (settled calendar today premise os) (settled-few calendar today premise retailer os) 0 os,
-      each-few atDropping atDropping (λ (i : ℕ). dropped calendar today premise retailer (one .orders)) (dropped-few calendar today premise retailer (one .orders)) 0 (one .orders),
-      each-few atDropping atTelling (λ (i : ℕ). lapsed today premise (two .orders)) (lapsed-few calendar today premise retailer (two .orders)) 0 (two .orders),
-      each-few atTelling done (λ (i : ℕ). told calendar today premise retailer) (told-few calendar today premise retailer (three .orders)) 0 (three .orders),
+      each-few atSettling atDropping (settled near premise os) (settled-few near only today premise retailer os) 0 os,
+      each-few atDropping atDropping (λ (i : ℕ). dropped near premise retailer (one .orders)) (dropped-few near only today premise retailer (one .orders)) 0 (one .orders),
+      each-few atDropping atTelling (λ (i : ℕ). lapsed today premise (two .orders)) (lapsed-few near only today premise retailer (two .orders)) 0 (two .orders),
+      each-few atTelling done (λ (i : ℕ). told near premise retailer) (told-few near only today premise retailer (three .orders)) 0 (three .orders),
       length-append (one .notices) (two .notices),
       length-append (one .notices ++ two .notices) (three .notices),
       length-append ((one .notices ++ two .notices) ++ three .notices) (four .notices),
     )
 
 pub evaluated-few : (calendar : List ℕ) (today : ℕ) (f : File) → length (evaluated calendar today f .notices) ≤ 2 * length (held f)
-evaluated-few calendar today f = omega (arith, evaluation-few calendar today (f .premise) (f .retailer) (held f), total-most atSettling settling-most (held f))
+evaluated-few calendar today f = omega (arith, evaluation-few (inWindow calendar windowWidth today) (window-days calendar windowWidth today) today (f .premise) (f .retailer) (held f), total-most atSettling settling-most (held f))
 
 pub mark-few : MarkFew
 unfolding marked
@@ -62,7 +63,7 @@ mark-few calendar today f k =
       arith,
       pass-few orderKept atMark atSettling (λ (i : ℕ). ticked (isBusinessDay calendar today) today (f .premise)) (λ i. ticked-few (isBusinessDay calendar today) today (f .premise)) 0 (held f) (k .orders),
       total-most atMark (λ o. omega arith) (held f),
-      evaluation-few calendar today (f .premise) (f .retailer) (held (withOrders f (ticks .orders))),
+      evaluation-few (inWindow calendar windowWidth today) (window-days calendar windowWidth today) today (f .premise) (f .retailer) (held (withOrders f (ticks .orders))),
       ap (total atSettling) (held-with f (ticks .orders)),
       length-append (ticks .notices) (evaluated calendar today (withOrders f (ticks .orders)) .notices),
     )

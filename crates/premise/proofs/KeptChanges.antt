@@ -3,21 +3,20 @@
 use Prim.Native.Nat.{ℕ, _+_, _≤_}
 use mathlib.Core.Path.{_≡_, refl}
 use mathlib.Core.List.{List}
-use mathlib.Core.Bool.{Bool, true, false, cond, not, _&&_, _||_, false≢true}
+use mathlib.Core.Bool.{Bool, true, false, cond, _&&_, _||_, false≢true}
 use native.Mathlib.Omega.{arith}
 use lib.Dec.{eqb, leb}
 use borrow.Author.Tests.{leb-true, le-leb}
-use Rattle.lists.specs.Search.{isAt}
 use Rattle.lists.proofs.TestLaws.{by-test}
 use Rattle.days.specs.Days.{isDay}
 use Rattle.records.specs.declared.Record.{Record}
 use Rattle.records.specs.Records.{moveIn, replyAccept}
 use Rattle.premise.specs.declared.Order.{Order}
 use Rattle.premise.specs.declared.File.{File}
-use Rattle.premise.specs.Orders.{inReview, permitPending, scheduled, cancelPending, complete, cancelled, unexecutable, hasStatus, hasKind, businessDays, calendarDays, withWaited}
+use Rattle.premise.specs.Orders.{inReview, permitPending, scheduled, cancelPending, complete, cancelled, unexecutable, hasStatus, hasKind, businessDays, calendarDays, withWaited, asCancelled}
 use Rattle.premise.specs.Passes.{Change}
 use Rattle.premise.specs.Clock.{mostWaited, longReview, shortReview, mostPending, grown, reviewed, permitAwaited, cancelAwaited, ticked}
-use Rattle.premise.specs.Evaluation.{asCancelled, contends, kept, settled, displaced, dropped, overtaken, lapsed, due, told}
+use Rattle.premise.specs.Evaluation.{givesWay, settled, displaced, dropped, overtaken, lapsed, due, told}
 use Rattle.premise.specs.Steps.{onScheduled, onPermit, onUnexecutable, onRead, onCancel, onReply}
 use Rattle.premise.specs.WellKept.{dayFits, permitFits, pendingFits}
 use Rattle.premise.proofs.KeptOrders.{OrderKept, in-status, day-or-none, no-day}
@@ -103,23 +102,23 @@ module _ (business : Bool) (today premise : ℕ) (o : Order) (k : OrderKept o) w
       (λ q. leaves-same o k)))
 
 -- ---- the four passes
-module _ (calendar : List ℕ) (today premise retailer : ℕ) (os : List Order) (o : Order) (k : OrderKept o) where
-  pub leaves-settled : (i : ℕ) → Leaves o (settled calendar today premise os i o .order)
+module _ (near : ℕ → Bool) (today premise retailer : ℕ) (os : List Order) (o : Order) (k : OrderKept o) where
+  pub leaves-settled : (i : ℕ) → Leaves o (settled near premise os i o .order)
   unfolding settled
-  leaves-settled i = by-test (LeavesBy o) (contends calendar today o && not (isAt (kept calendar today os (o .scheduled)) i)) _ _ (λ q. leaves-cancelled o k) (λ q. leaves-same o k)
+  leaves-settled i = by-test (LeavesBy o) (givesWay near os i o) _ _ (λ q. leaves-cancelled o k) (λ q. leaves-same o k)
 
-  pub leaves-dropped : Leaves o (dropped calendar today premise retailer os o .order)
+  pub leaves-dropped : Leaves o (dropped near premise retailer os o .order)
   unfolding dropped
-  leaves-dropped = by-test (LeavesBy o) (displaced calendar today os o) _ _ (λ q. leaves-cancelled o k) (λ q. leaves-same o k)
+  leaves-dropped = by-test (LeavesBy o) (displaced near os o) _ _ (λ q. leaves-cancelled o k) (λ q. leaves-same o k)
 
   pub leaves-lapsed : Leaves o (lapsed today premise os o .order)
   unfolding lapsed
   leaves-lapsed = by-test (LeavesBy o) (overtaken today os o) _ _ (λ q. leaves-cancelled o k) (λ q. leaves-same o k)
 
-  pub leaves-told : Leaves o (told calendar today premise retailer o .order)
+  pub leaves-told : Leaves o (told near premise retailer o .order)
   unfolding told
   leaves-told =
-      by-test (LeavesBy o) (due calendar today o) _ _
+      by-test (LeavesBy o) (due near o) _ _
       (λ q. leaves o (o .status) (o .scheduled) (o .waited .0) (o .pending .0) 1 k (k .status) (k .scheduled) (k .permit) (k .waited) (k .pending) refl)
       (λ q. leaves-same o k)
 

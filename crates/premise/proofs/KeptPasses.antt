@@ -3,11 +3,12 @@
 use Prim.Native.Nat.{ℕ, suc, _≤_}
 use mathlib.Core.Path.{_≡_, refl, sym, ap, ap₂, _∙_}
 use mathlib.Core.List.{List, [], _∷_}
-use mathlib.Core.Bool.{true}
+use mathlib.Core.Bool.{Bool, true}
 use native.Mathlib.Omega.{arith}
 use lib.ListN.{length, length-map}
 use Rattle.lists.specs.Search.{allOf, Each}
 use Rattle.days.specs.Days.{isDay, isBusinessDay}
+use Rattle.days.specs.Window.{windowWidth, inWindow}
 use Rattle.records.specs.Records.{aPremise, aRetailerOrNone}
 use Rattle.premise.specs.declared.Order.{Order}
 use Rattle.premise.specs.declared.File.{File}
@@ -56,28 +57,28 @@ both-leave : (first : Outcome) (next : List Order → Outcome) (os : List Order)
     → ((xs : List Order) → Each OrderKept xs → LeavesAll xs (next xs .orders)) → LeavesAll os (andThen first next .orders)
 both-leave first next os a n = leaves-then os (first .orders) (next (first .orders) .orders) a (n (first .orders) (a .kept))
 
-module _ (calendar : List ℕ) (today premise retailer : ℕ) where
-  settle-leaves : (os : List Order) → Each OrderKept os → LeavesAll os (settle calendar today premise os .orders)
-  settle-leaves os k = pass-leaves (settled calendar today premise os) (λ i o h. leaves-settled calendar today premise retailer os o h i) 0 os k
+module _ (near : ℕ → Bool) (today premise retailer : ℕ) where
+  settle-leaves : (os : List Order) → Each OrderKept os → LeavesAll os (settle near premise os .orders)
+  settle-leaves os k = pass-leaves (settled near premise os) (λ i o h. leaves-settled near today premise retailer os o h i) 0 os k
 
-  drops-leave : (os : List Order) → Each OrderKept os → LeavesAll os (dropDrops calendar today premise retailer os .orders)
-  drops-leave os k = pass-leaves (λ (i : ℕ). dropped calendar today premise retailer os) (λ i o h. leaves-dropped calendar today premise retailer os o h) 0 os k
+  drops-leave : (os : List Order) → Each OrderKept os → LeavesAll os (dropDrops near premise retailer os .orders)
+  drops-leave os k = pass-leaves (λ (i : ℕ). dropped near premise retailer os) (λ i o h. leaves-dropped near today premise retailer os o h) 0 os k
 
   lapse-leaves : (os : List Order) → Each OrderKept os → LeavesAll os (lapse today premise os .orders)
-  lapse-leaves os k = pass-leaves (λ (i : ℕ). lapsed today premise os) (λ i o h. leaves-lapsed calendar today premise retailer os o h) 0 os k
+  lapse-leaves os k = pass-leaves (λ (i : ℕ). lapsed today premise os) (λ i o h. leaves-lapsed near today premise retailer os o h) 0 os k
 
-  tell-leaves : (os : List Order) → Each OrderKept os → LeavesAll os (tell calendar today premise retailer os .orders)
-  tell-leaves os k = pass-leaves (λ (i : ℕ). told calendar today premise retailer) (λ i o h. leaves-told calendar today premise retailer os o h) 0 os k
+  tell-leaves : (os : List Order) → Each OrderKept os → LeavesAll os (tell near premise retailer os .orders)
+  tell-leaves os k = pass-leaves (λ (i : ℕ). told near premise retailer) (λ i o h. leaves-told near today premise retailer os o h) 0 os k
 
-  pub evaluation-leaves : (os : List Order) → Each OrderKept os → LeavesAll os (evaluation calendar today premise retailer os .orders)
+  pub evaluation-leaves : (os : List Order) → Each OrderKept os → LeavesAll os (evaluation near today premise retailer os .orders)
   unfolding evaluation
   evaluation-leaves os k =
-      let one = settle calendar today premise os in
-      let two = andThen one (dropDrops calendar today premise retailer) in
+      let one = settle near premise os in
+      let two = andThen one (dropDrops near premise retailer) in
       let three = andThen two (lapse today premise) in
-      let a = both-leave one (dropDrops calendar today premise retailer) os (settle-leaves os k) drops-leave in
+      let a = both-leave one (dropDrops near premise retailer) os (settle-leaves os k) drops-leave in
       let b = both-leave two (lapse today premise) os a lapse-leaves in
-      both-leave three (tell calendar today premise retailer) os b tell-leaves
+      both-leave three (tell near premise retailer) os b tell-leaves
 
 -- ---- a file
 -- the file of a premise, R and S in range
@@ -114,8 +115,8 @@ kept-after premise f g os k h a =
 
 pub evaluated-keeps : (calendar : List ℕ) (today : ℕ) (f : File) (premise : ℕ) → KeptFor premise f → KeptFor premise (evaluated calendar today f .file)
 evaluated-keeps calendar today f premise k =
-    kept-after premise f f (evaluation calendar today (f .premise) (f .retailer) (held f) .orders) k (header-of premise f k)
-    (evaluation-leaves calendar today (f .premise) (f .retailer) (held f) (orders-facts (held f) (k .kept .orders)))
+    kept-after premise f f (evaluation (inWindow calendar windowWidth today) today (f .premise) (f .retailer) (held f) .orders) k (header-of premise f k)
+    (evaluation-leaves (inWindow calendar windowWidth today) today (f .premise) (f .retailer) (held f) (orders-facts (held f) (k .kept .orders)))
 
 pub mark-keeps : MarkKeeps
 unfolding marked

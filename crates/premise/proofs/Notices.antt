@@ -8,6 +8,7 @@ use Rattle.lists.specs.Search.{Each}
 use Rattle.lists.specs.declared.Found.{Found}
 use Rattle.lists.specs.declared.Found.the-variants.{At, Nothing}
 use Rattle.days.specs.Days.{isBusinessDay}
+use Rattle.days.specs.Window.{windowWidth, inWindow}
 use Rattle.records.specs.declared.Record.{Record}
 use Rattle.records.specs.declared.Notice.{Notice}
 use Rattle.records.specs.Records.{kindCreate, kindRetire, kindNewOrder, kindDayMark}
@@ -74,12 +75,12 @@ module _ (premise : ℕ) where
   unfolding ticked reviewed permitAwaited cancelAwaited
   ticked-of business today o = search speaking depth 10
 
-  module _ (calendar : List ℕ) (today retailer : ℕ) (os : List Order) (i : ℕ) (o : Order) where
-    settled-of : Speaks premise (settled calendar today premise os i o)
+  module _ (near : ℕ → Bool) (today retailer : ℕ) (os : List Order) (i : ℕ) (o : Order) where
+    settled-of : Speaks premise (settled near premise os i o)
     unfolding settled
     settled-of = search speaking
 
-    dropped-of : Speaks premise (dropped calendar today premise retailer os o)
+    dropped-of : Speaks premise (dropped near premise retailer os o)
     unfolding dropped
     dropped-of = search speaking depth 8
 
@@ -87,30 +88,30 @@ module _ (premise : ℕ) where
     unfolding lapsed
     lapsed-of = search speaking
 
-    told-of : Speaks premise (told calendar today premise retailer o)
+    told-of : Speaks premise (told near premise retailer o)
     unfolding told
     told-of = search speaking
 
-  evaluation-of : (calendar : List ℕ) (today retailer : ℕ) (os : List Order) → Each (Of premise) (evaluation calendar today premise retailer os .notices)
+  evaluation-of : (near : ℕ → Bool) (today retailer : ℕ) (os : List Order) → Each (Of premise) (evaluation near today premise retailer os .notices)
   unfolding evaluation
-  evaluation-of calendar today retailer os =
-      let one : Outcome = settle calendar today premise os in
-      let two : Outcome = andThen one (dropDrops calendar today premise retailer) in
+  evaluation-of near today retailer os =
+      let one : Outcome = settle near premise os in
+      let two : Outcome = andThen one (dropDrops near premise retailer) in
       let three : Outcome = andThen two (lapse today premise) in
-      each-then (Of premise) three (tell calendar today premise retailer)
+      each-then (Of premise) three (tell near premise retailer)
       (each-then (Of premise) two (lapse today premise)
-      (each-then (Of premise) one (dropDrops calendar today premise retailer)
-      (each-pass (Of premise) (settled calendar today premise os) (λ i o. settled-of calendar today retailer os i o .all) 0 os)
-      (λ os. each-pass (Of premise) (λ (i : ℕ). dropped calendar today premise retailer os) (λ i o. dropped-of calendar today retailer os i o .all) 0 os))
-      (λ os. each-pass (Of premise) (λ (i : ℕ). lapsed today premise os) (λ i o. lapsed-of calendar today retailer os i o .all) 0 os))
-      (λ os. each-pass (Of premise) (λ (i : ℕ). told calendar today premise retailer) (λ i o. told-of calendar today retailer os i o .all) 0 os)
+      (each-then (Of premise) one (dropDrops near premise retailer)
+      (each-pass (Of premise) (settled near premise os) (λ i o. settled-of near today retailer os i o .all) 0 os)
+      (λ os. each-pass (Of premise) (λ (i : ℕ). dropped near premise retailer os) (λ i o. dropped-of near today retailer os i o .all) 0 os))
+      (λ os. each-pass (Of premise) (λ (i : ℕ). lapsed today premise os) (λ i o. lapsed-of near today retailer os i o .all) 0 os))
+      (λ os. each-pass (Of premise) (λ (i : ℕ). told near premise retailer) (λ i o. told-of near today retailer os i o .all) 0 os)
 
 pub mark-notices : MarkNotices
 unfolding marked
 mark-notices calendar today f =
     each-followed (Of (f .premise)) (onFile f (clock calendar today (f .premise) (held f))) (evaluated calendar today)
     (each-pass (Of (f .premise)) (λ (i : ℕ). ticked (isBusinessDay calendar today) today (f .premise)) (λ i o. ticked-of (f .premise) (isBusinessDay calendar today) today o .all) 0 (held f))
-    (evaluation-of (f .premise) calendar today (f .retailer) _)
+    (evaluation-of (f .premise) (inWindow calendar windowWidth today) today (f .retailer) _)
 
 -- ---- a record's own steps
 order-of : (f : File) (r : Record) (o : Order) → Speaks (f .premise) (onOrder f r o)
@@ -144,7 +145,7 @@ unfolding ordered
 new-of calendar today f r = record { file = refl; notices = (refl, tt) }
 
 evaluated-of : (calendar : List ℕ) (today premise : ℕ) (f : File) → f .premise ≡ premise → Each (Of premise) (evaluated calendar today f .notices)
-evaluated-of calendar today premise f e = of-same (evaluated calendar today f .notices) e (evaluation-of (f .premise) calendar today (f .retailer) (held f))
+evaluated-of calendar today premise f e = of-same (evaluated calendar today f .notices) e (evaluation-of (f .premise) (inWindow calendar windowWidth today) today (f .retailer) (held f))
 
 stepped-of : (calendar : List ℕ) (today : ℕ) (f : File) (r : Record) → Each (Of (f .premise)) (stepped calendar today f r .notices)
 unfolding stepped

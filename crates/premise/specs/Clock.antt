@@ -6,8 +6,8 @@ use lib.Dec.{eqb, leb}
 use Rattle.days.specs.Days.{isBusinessDay}
 use Rattle.records.specs.Notices.{tdsp}
 use Rattle.premise.specs.declared.Order.{Order}
-use Rattle.premise.specs.Orders.{inReview, permitPending, cancelPending, cancelled, hasStatus, withStatus, withWaited, withPending}
-use Rattle.premise.specs.Passes.{Change, Outcome, same, notice, pass, codeCancel}
+use Rattle.premise.specs.Orders.{inReview, permitPending, cancelPending, hasStatus, withStatus, withWaited, withPending}
+use Rattle.premise.specs.Passes.{Change, Outcome, same, cancelling, notice, pass, codeCancel}
 
 -- N never grows above 21.
 abbrev pub mostWaited : ℕ
@@ -56,14 +56,7 @@ permitAwaited business today premise o =
 -- Cancel Pending: W grows by 1; at 7 Cancelled, W 0, notice 5 to the TDSP, then to Q.
 unfoldable pub cancelAwaited : ℕ → Order → Change
 cancelAwaited premise o =
-    cond (leb mostPending (o .pending .0 + 1))
-    (record {
-      order = withPending 0 (withStatus cancelled o);
-      notices =
-          notice codeCancel premise tdsp (withPending 0 (withStatus cancelled o))
-          ∷ notice codeCancel premise (o .retailer) (withPending 0 (withStatus cancelled o)) ∷ [];
-    })
-    (same (withPending (o .pending .0 + 1) o))
+    cond (leb mostPending (o .pending .0 + 1)) (cancelling premise (o .retailer) o) (same (withPending (o .pending .0 + 1) o))
 
 -- the clock on one order, on a day that is a business day or not
 unfoldable pub ticked : Bool → ℕ → ℕ → Order → Change

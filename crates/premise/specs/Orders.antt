@@ -88,6 +88,10 @@ abbrev pub withTold : ℕ → Order → Order
 withTold told o =
     record { reference = o .reference; kind = o .kind; retailer = o .retailer; requested = o .requested; scheduled = o .scheduled; status = o .status; waited = o .waited; pending = o .pending; told = told }
 
+-- Cancelled, W 0. (Only Cancel Pending counts W: elsewhere it is 0 already.)
+abbrev pub asCancelled : Order → Order
+asCancelled o = withPending 0 (withStatus cancelled o)
+
 -- an unused place: every field zero
 abbrev pub blank : Order
 blank = record { reference = 0; kind = 0; retailer = 0; requested = 0; scheduled = 0; status = 0; waited = businessDays 0; pending = calendarDays 0; told = 0 }

@@ -4,9 +4,10 @@ use mathlib.Core.List.{List, [], _∷_, _++_}
 use mathlib.Core.Bool.{cond}
 use lib.Dec.{leb}
 use Rattle.records.specs.declared.Notice.{Notice}
+use Rattle.records.specs.Notices.{tdsp}
 use Rattle.premise.specs.declared.Order.{Order}
 use Rattle.premise.specs.declared.File.{File}
-use Rattle.premise.specs.Orders.{withOrders}
+use Rattle.premise.specs.Orders.{asCancelled, withOrders}
 
 -- The notice codes: 1 814_03, 2 814_24, 3 814_05 or 814_25, 4 814_06, 5 814_08, 6 814_28 permit, 7 814_28 unexecutable, 8 814_09 reject.
 abbrev pub codeOrder : ℕ
@@ -50,6 +51,11 @@ pub record Change : Type 0 where
 -- an order that stays as it is
 abbrev pub same : Order → Change
 same o = record { order = o; notices = [] }
+
+-- an order that is Cancelled, W 0, with notice 5 to the TDSP, then to an addressee
+abbrev pub cancelling : ℕ → ℕ → Order → Change
+cancelling premise addressee o =
+    record { order = asCancelled o; notices = notice codeCancel premise tdsp (asCancelled o) ∷ notice codeCancel premise addressee (asCancelled o) ∷ [] }
 
 -- a file's orders afterwards, and the notices
 pub record Outcome : Type 0 where

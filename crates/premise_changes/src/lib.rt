@@ -2,10 +2,9 @@
 // in the buffer.
 ghost use mathlib.Core.Path.{_≡_};
 ghost use mathlib.Core.List.{[], _∷_};
-ghost use Rattle.premise.specs.Passes.{notice, codeCancel};
-ghost use Rattle.premise.specs.Evaluation.{asCancelled};
+ghost use Rattle.premise.specs.Orders.{asCancelled};
+ghost use Rattle.premise.specs.Passes.{cancelling, notice, codeCancel};
 ghost use Rattle.premise.specs.Promises.{Room, Writes, DoneToOrder};
-ghost use Rattle.premise_changes.specs.Parts.{cancelling};
 use premise::CalendarDays;
 use premise::Order;
 use premise::Stepped;

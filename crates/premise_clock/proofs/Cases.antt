@@ -6,9 +6,8 @@ use lib.Dec.{leb}
 use borrow.Author.Tests.{eq-eqb, ne-eqb}
 use Rattle.premise.specs.declared.Order.{Order}
 use Rattle.premise.specs.Orders.{inReview, permitPending, cancelPending, withPending}
-use Rattle.premise.specs.Passes.{same}
+use Rattle.premise.specs.Passes.{same, cancelling}
 use Rattle.premise.specs.Clock.{mostPending, reviewed, permitAwaited, cancelAwaited, ticked}
-use Rattle.premise_changes.specs.Parts.{cancelling}
 
 module _ (business : Bool) (today premise : ℕ) (o : Order) where
   pub tick-review : o .status ≡ inReview → ticked business today premise o ≡ reviewed business today premise o

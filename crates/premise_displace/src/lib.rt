@@ -1,11 +1,11 @@
 // The premise layer, inner: pass 2 of the evaluation on one order. A drop is displaced by a switch of its day.
 ghost use mathlib.Core.Path.{_≡_};
 ghost use Rattle.lists.specs.Search.{anyOf};
+ghost use Rattle.days.specs.Window.{upTo};
 ghost use Rattle.premise.specs.Orders.{held};
-ghost use Rattle.premise.specs.Evaluation.{displaced, dropped};
+ghost use Rattle.premise.specs.Evaluation.{switchOn, displaced, dropped};
 ghost use Rattle.premise.specs.WellKept.{Tidy};
 ghost use Rattle.premise.specs.Promises.{Room, DoneToOrder};
-ghost use Rattle.premise_displace.specs.Others.{switchOn};
 use premise::File;
 use premise::Order;
 use premise::Stepped;
@@ -24,7 +24,7 @@ fn is_switch_on(day: u16, o: Order) -> bool
 }
 
 // Whether a file has a Scheduled switch for a day.
-pub fn any_switch_on(file: File, day: u16) -> bool
+fn any_switch_on(file: File, day: u16) -> bool
     requires { ⌜ Tidy file ⌝ }
     ensures { λ r. ⌜ r ≡ anyOf (switchOn day) (held file) ⌝ }
 {
@@ -41,9 +41,9 @@ pub fn any_switch_on(file: File, day: u16) -> bool
 }
 
 // Whether an order is a drop that a switch displaces.
-fn is_displaced(calendar: &[u8], today: u16, file: File, o: Order) -> bool
+pub fn is_displaced(last: u16, file: File, o: Order) -> bool
     requires { ⌜ Tidy file ⌝ }
-    ensures { λ r. ⌜ r ≡ displaced (now (calendar .entry)) today (held file) o ⌝ }
+    ensures { λ r. ⌜ r ≡ displaced (upTo last) (held file) o ⌝ }
 {
     if o.kind != records::order_kind::MASS_TRANSITION_DROP {
         return false;
@@ -51,25 +51,18 @@ fn is_displaced(calendar: &[u8], today: u16, file: File, o: Order) -> bool
     if o.status != premise::SCHEDULED {
         return false;
     }
-    if !premise_order_tests::is_near(calendar, today, o) {
+    if last < o.scheduled {
         return false;
     }
     any_switch_on(file, o.scheduled)
 }
 
 // Pass 2 on an order of a file.
-pub fn displace(
-    calendar: &[u8],
-    today: u16,
-    file: File,
-    o: Order,
-    standing: usize,
-    buffer: &mut [u8],
-) -> Stepped
-    requires { ⌜ Tidy file × Room standing (dropped (now calendar) today (file .premise) (file .retailer) (held file) o .notices) (now buffer) ⌝ }
-    ensures { λ r. ⌜ DoneToOrder (dropped (now (calendar .entry)) today (file .premise) (file .retailer) (held file) o) standing r (now (buffer .entry)) (now (buffer .exit)) ⌝ }
+pub fn displace(last: u16, file: File, o: Order, standing: usize, buffer: &mut [u8]) -> Stepped
+    requires { ⌜ Tidy file × Room standing (dropped (upTo last) (file .premise) (file .retailer) (held file) o .notices) (now buffer) ⌝ }
+    ensures { λ r. ⌜ DoneToOrder (dropped (upTo last) (file .premise) (file .retailer) (held file) o) standing r (now (buffer .entry)) (now (buffer .exit)) ⌝ }
 {
-    if !is_displaced(calendar, today, file, o) {
+    if !is_displaced(last, file, o) {
         return Stepped {
             order: o,
             sent: standing,

@@ -9,10 +9,8 @@ use Rattle.lists.specs.Search.{anyOf}
 use Rattle.records.specs.Records.{moveIn}
 use Rattle.premise.specs.declared.Order.{Order}
 use Rattle.premise.specs.Orders.{permitPending, scheduled}
-use Rattle.premise.specs.Passes.{same}
-use Rattle.premise.specs.Evaluation.{overtaken, lapsed}
-use Rattle.premise_changes.specs.Parts.{cancelling}
-use Rattle.premise_lapse.specs.Others.{overtakes}
+use Rattle.premise.specs.Passes.{same, cancelling}
+use Rattle.premise.specs.Evaluation.{overtakes, overtaken, lapsed}
 
 module _ (today requested : ℕ) (o : Order) where
   pub overtakes-other : (o .kind ≡ moveIn → ⊥) → false ≡ overtakes today requested o

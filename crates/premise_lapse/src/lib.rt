@@ -2,10 +2,9 @@
 ghost use mathlib.Core.Path.{_≡_};
 ghost use Rattle.lists.specs.Search.{anyOf};
 ghost use Rattle.premise.specs.Orders.{held};
-ghost use Rattle.premise.specs.Evaluation.{overtaken, lapsed};
+ghost use Rattle.premise.specs.Evaluation.{overtakes, overtaken, lapsed};
 ghost use Rattle.premise.specs.WellKept.{Tidy};
 ghost use Rattle.premise.specs.Promises.{Room, DoneToOrder};
-ghost use Rattle.premise_lapse.specs.Others.{overtakes};
 use premise::File;
 use premise::Order;
 use premise::Stepped;

@@ -1,16 +1,10 @@
-// The premise layer, inner: what several passes of the evaluation ask of an order.
+// The premise layer, inner: what several passes of the evaluation ask of an order. In window is here: up to the last day in window, which
+// the caller of the evaluation looks for once.
 ghost use mathlib.Core.Path.{_≡_};
+ghost use Rattle.days.specs.Window.{upTo};
 ghost use Rattle.premise.specs.Orders.{isSwitch};
-ghost use Rattle.premise.specs.Evaluation.{near};
-ghost use Rattle.premise_order_tests.specs.Standing.{isStanding};
+ghost use Rattle.premise.specs.Evaluation.{isStanding, contends};
 use premise::Order;
-
-// Whether an order's scheduled day is in window.
-pub fn is_near(calendar: &[u8], today: u16, o: Order) -> bool
-    ensures { λ r. ⌜ r ≡ near (now (calendar .entry)) today o ⌝ }
-{
-    day_window::in_window(calendar, days::WINDOW_WIDTH, today, o.scheduled)
-}
 
 // Whether an order is a switch, standard or self-selected.
 pub fn is_switch(o: Order) -> bool
@@ -30,4 +24,17 @@ pub fn is_standing(o: Order) -> bool
         return true;
     }
     o.status == premise::CANCEL_PENDING
+}
+
+// Whether an order is one of the switches in window of which one a day is kept.
+pub fn is_contender(last: u16, o: Order) -> bool
+    ensures { λ r. ⌜ r ≡ contends (upTo last) o ⌝ }
+{
+    if !is_switch(o) {
+        return false;
+    }
+    if !is_standing(o) {
+        return false;
+    }
+    o.scheduled <= last
 }

@@ -26,11 +26,11 @@ pub fn evaluate(
             sent: standing,
         };
     }
-    let settled = premise_run::run(Pass::Settle, calendar, today, file, standing, buffer);
+    let settled = premise_run::run(Pass::Settle, today, last, file, standing, buffer);
     let f = settled.file;
-    let displaced = premise_run::run(Pass::Displace, calendar, today, f, settled.sent, buffer);
+    let displaced = premise_run::run(Pass::Displace, today, last, f, settled.sent, buffer);
     let g = displaced.file;
-    let lapsed = premise_run::run(Pass::Lapse, calendar, today, g, displaced.sent, buffer);
+    let lapsed = premise_run::run(Pass::Lapse, today, last, g, displaced.sent, buffer);
     let h = lapsed.file;
-    premise_run::run(Pass::Tell, calendar, today, h, lapsed.sent, buffer)
+    premise_run::run(Pass::Tell, today, last, h, lapsed.sent, buffer)
 }

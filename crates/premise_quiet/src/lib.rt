@@ -19,7 +19,7 @@ pub fn any_stirs(today: u16, last: u16, file: File) -> bool
         let place = i;
         i += 1;
         if premise_stirs::may_stir(last, o) {
-            if premise_stirs::is_stirring(today, file, place, o) {
+            if premise_stirs::is_stirring(today, last, file, place, o) {
                 return true;
             }
         }
@@ -42,7 +42,7 @@ pub fn is_touched(business: bool, today: u16, last: u16, file: File) -> bool
             return true;
         }
         if premise_stirs::may_stir(last, o) {
-            if premise_stirs::is_stirring(today, file, at, o) {
+            if premise_stirs::is_stirring(today, last, file, at, o) {
                 return true;
             }
         }

@@ -2,42 +2,36 @@
 use Prim.Native.Nat.{ℕ}
 use mathlib.Core.Path.{_≡_, sym, ap}
 use mathlib.Core.List.{List}
-use mathlib.Core.Bool.{Bool, true, false, not}
+use mathlib.Core.Bool.{Bool, true, false, and-false}
 use borrow.Author.Tests.{eq-eqb, ne-eqb}
-use Rattle.lists.specs.Search.{placeOf, isAt, orElse}
+use Rattle.lists.specs.Search.{placeOf, orElse}
 use Rattle.lists.specs.declared.Found.{Found}
 use Rattle.lists.specs.declared.Found.the-variants.{At, Nothing}
 use Rattle.premise.specs.declared.Order.{Order}
-use Rattle.premise.specs.Orders.{scheduled, hasStatus, isSwitch}
-use Rattle.premise_order_tests.specs.Standing.{isStanding}
-use Rattle.premise_rivals.specs.Rivals.{rival, keptOn}
+use Rattle.premise.specs.Orders.{scheduled, hasStatus}
+use Rattle.premise.specs.Evaluation.{contends, kept}
+use Rattle.premise_rivals.specs.Rivals.{rival}
 
-module _ (day : ℕ) (os : List Order) where
-  pub kept-first : (i : ℕ) → placeOf (rival day true) os ≡ At i → At i ≡ keptOn day os
-  kept-first i e = sym (ap (λ (f : Found). orElse f (placeOf (rival day false) os)) e)
+module _ (near : ℕ → Bool) (day : ℕ) (os : List Order) where
+  pub kept-first : (i : ℕ) → placeOf (rival near day true) os ≡ At i → At i ≡ kept near os day
+  unfolding kept
+  kept-first i e = sym (ap (λ (f : Found). orElse f (placeOf (rival near day false) os)) e)
 
-  pub kept-other : placeOf (rival day true) os ≡ Nothing → placeOf (rival day false) os ≡ keptOn day os
-  kept-other e = sym (ap (λ (f : Found). orElse f (placeOf (rival day false) os)) e)
+  pub kept-other : placeOf (rival near day true) os ≡ Nothing → placeOf (rival near day false) os ≡ kept near os day
+  unfolding kept
+  kept-other e = sym (ap (λ (f : Found). orElse f (placeOf (rival near day false) os)) e)
 
-  -- whether it is another than the one at a place, by what the search found
-  pub kept-found : (i : ℕ) (f : Found) → keptOn day os ≡ f → not (isAt f i) ≡ not (isAt (keptOn day os) i)
-  kept-found i f e = ap (λ (g : Found). not (isAt g i)) (sym e)
+module _ (near : ℕ → Bool) (day : ℕ) (o : Order) where
+  pub rival-elsewhere : (only : Bool) → (o .scheduled ≡ day → ⊥) → false ≡ rival near day only o
+  rival-elsewhere true h = simp (ne-eqb (o .scheduled) day h, and-false)
+  rival-elsewhere false h = simp (ne-eqb (o .scheduled) day h, and-false)
 
-module _ (day : ℕ) (o : Order) where
-  pub rival-other : (only : Bool) → isSwitch o ≡ false → false ≡ rival day only o
+  pub rival-other : (only : Bool) → contends near o ≡ false → false ≡ rival near day only o
   rival-other true e = simp e
   rival-other false e = simp e
 
-  pub rival-closed : (only : Bool) → isSwitch o ≡ true → isStanding o ≡ false → false ≡ rival day only o
-  rival-closed true e d = simp (e, d)
-  rival-closed false e d = simp (e, d)
+  pub rival-only : (only : Bool) → o .scheduled ≡ day → contends near o ≡ true → only ≡ true → hasStatus scheduled o ≡ rival near day only o
+  rival-only only h e k = rw k (simp (e, eq-eqb (o .scheduled) day h))
 
-  pub rival-elsewhere : (only : Bool) → isSwitch o ≡ true → isStanding o ≡ true → (o .scheduled ≡ day → ⊥) → false ≡ rival day only o
-  rival-elsewhere true e d h = simp (e, d, ne-eqb (o .scheduled) day h)
-  rival-elsewhere false e d h = simp (e, d, ne-eqb (o .scheduled) day h)
-
-  pub rival-only : (only : Bool) → isSwitch o ≡ true → isStanding o ≡ true → o .scheduled ≡ day → only ≡ true → hasStatus scheduled o ≡ rival day only o
-  rival-only only e d h k = rw k (simp (e, d, eq-eqb (o .scheduled) day h))
-
-  pub rival-any : (only : Bool) → isSwitch o ≡ true → isStanding o ≡ true → o .scheduled ≡ day → only ≡ false → true ≡ rival day only o
-  rival-any only e d h k = rw k (simp (e, d, eq-eqb (o .scheduled) day h))
+  pub rival-any : (only : Bool) → o .scheduled ≡ day → contends near o ≡ true → only ≡ false → true ≡ rival near day only o
+  rival-any only h e k = rw k (simp (e, eq-eqb (o .scheduled) day h))

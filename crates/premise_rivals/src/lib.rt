@@ -1,25 +1,23 @@
-// The premise layer, inner: which of a file's switches is kept for a day that is in window.
+// The premise layer, inner: which of a file's switches is kept for a day, by the last day in window.
 ghost use mathlib.Core.Path.{_≡_};
-ghost use mathlib.Core.Bool.{not};
-ghost use Rattle.lists.specs.Search.{placeOf, isAt};
+ghost use Rattle.lists.specs.Search.{placeOf};
+ghost use Rattle.days.specs.Window.{upTo};
 ghost use Rattle.premise.specs.Orders.{held};
+ghost use Rattle.premise.specs.Evaluation.{kept};
 ghost use Rattle.premise.specs.WellKept.{Tidy};
-ghost use Rattle.premise_rivals.specs.Rivals.{rival, keptOn};
+ghost use Rattle.premise_rivals.specs.Rivals.{rival};
 use lists::Found;
 use premise::File;
 use premise::Order;
 
-// Whether an order is a switch that contends for a day which is in window; with `only`, a Scheduled one.
-fn is_rival(day: u16, only: bool, o: Order) -> bool
-    ensures { λ r. ⌜ r ≡ rival day only o ⌝ }
+// Whether an order is a switch that contends for a day; with `only`, a Scheduled one. Most orders are of another day.
+fn is_rival(last: u16, day: u16, only: bool, o: Order) -> bool
+    ensures { λ r. ⌜ r ≡ rival (upTo last) day only o ⌝ }
 {
-    if !premise_order_tests::is_switch(o) {
-        return false;
-    }
-    if !premise_order_tests::is_standing(o) {
-        return false;
-    }
     if o.scheduled != day {
+        return false;
+    }
+    if !premise_order_tests::is_contender(last, o) {
         return false;
     }
     if only {
@@ -29,15 +27,15 @@ fn is_rival(day: u16, only: bool, o: Order) -> bool
 }
 
 // The place of the oldest such switch of a file.
-fn first_rival(file: File, day: u16, only: bool) -> Found
+fn first_rival(file: File, last: u16, day: u16, only: bool) -> Found
     requires { ⌜ Tidy file ⌝ }
-    ensures { λ r. ⌜ r ≡ placeOf (rival day only) (held file) ⌝ }
+    ensures { λ r. ⌜ r ≡ placeOf (rival (upTo last) day only) (held file) ⌝ }
 {
     let n = file.count;
     let mut i: usize = 0;
     while i < n {
         let o = file.orders[i];
-        if is_rival(day, only, o) {
+        if is_rival(last, day, only, o) {
             return Found::At(i);
         }
         i += 1;
@@ -45,26 +43,14 @@ fn first_rival(file: File, day: u16, only: bool) -> Found
     Found::Nothing
 }
 
-// The place of the switch that is kept for a day which is in window: the oldest Scheduled one, or the oldest if none is Scheduled.
-fn kept_place(file: File, day: u16) -> Found
+// The place of the switch that is kept for a day: the oldest Scheduled one, or the oldest if none is Scheduled.
+pub fn kept_place(file: File, last: u16, day: u16) -> Found
     requires { ⌜ Tidy file ⌝ }
-    ensures { λ r. ⌜ r ≡ keptOn day (held file) ⌝ }
+    ensures { λ r. ⌜ r ≡ kept (upTo last) (held file) day ⌝ }
 {
-    let first = first_rival(file, day, true);
+    let first = first_rival(file, last, day, true);
     match first {
         Found::At(i) => Found::At(i),
-        Found::Nothing => first_rival(file, day, false),
-    }
-}
-
-// Whether the switch that is kept for a day which is in window is another than the one at a place.
-pub fn kept_elsewhere(file: File, day: u16, i: usize) -> bool
-    requires { ⌜ Tidy file ⌝ }
-    ensures { λ r. ⌜ r ≡ not (isAt (keptOn day (held file)) i) ⌝ }
-{
-    let place = kept_place(file, day);
-    match place {
-        Found::At(j) => j != i,
-        Found::Nothing => true,
+        Found::Nothing => first_rival(file, last, day, false),
     }
 }

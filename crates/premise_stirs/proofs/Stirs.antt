@@ -1,21 +1,20 @@
--- Whether the evaluation changes an order: by the one pass that may, by what the order says by itself, by its own day. Assumes nothing.
+-- Whether the evaluation changes an order: by the one pass that may, and by what the order says by itself. Assumes nothing.
 use Prim.Native.Nat.{ℕ}
 use mathlib.Core.Path.{_≡_, refl, sym, ap, _∙_}
 use mathlib.Core.List.{List}
 use mathlib.Core.Bool.{Bool, true, false, not, _&&_, _||_, false≢true}
-use lib.Dec.{eqb, leb}
-use borrow.Author.Tests.{ne-eqb, eqb-true}
+use lib.Dec.{eqb}
+use borrow.Author.Tests.{ne-eqb}
 use Rattle.lists.specs.Search.{anyOf, isAt}
-use Rattle.lists.proofs.TestLaws.{and-right, or-left, or-right}
+use Rattle.lists.proofs.TestLaws.{or-left, or-right}
+use Rattle.days.specs.Window.{upTo}
 use Rattle.records.specs.Records.{moveOut, massTransitionDrop}
 use Rattle.premise.specs.declared.Order.{Order}
 use Rattle.premise.specs.Orders.{permitPending, scheduled, cancelPending, hasStatus, hasKind, isSwitch}
-use Rattle.premise.specs.Evaluation.{overtaken}
-use Rattle.premise_order_tests.specs.Standing.{isStanding}
-use Rattle.premise_rivals.specs.Rivals.{keptOn}
-use Rattle.premise_displace.specs.Others.{switchOn}
-use Rattle.premise_stirs.specs.Stirs.{givesWay, displacedBy, dueBy, stirs, mayStir}
-use Rattle.premise_stirs.proofs.Cases.{way-other, displaced-other, not-overtaken, own-day}
+use Rattle.premise.specs.Evaluation.{isStanding, contends, kept, givesWay, switchOn, displaced, overtaken, due}
+use Rattle.premise_displace.proofs.Cases.{displaced-other}
+use Rattle.premise_stirs.specs.Stirs.{stirs, mayStir}
+use Rattle.premise_stirs.proofs.Cases.{no-switch, not-overtaken}
 
 -- ---- one of four tests, where the others fail
 only-first : (a b c d : Bool) → b ≡ false → c ≡ false → d ≡ false → a ≡ (a || b || c || d)
@@ -34,23 +33,26 @@ or-last : (a b : Bool) → b ≡ true → true ≡ (a || b)
 or-last true b h = refl
 or-last false b h = sym h
 
-or-none : (a : Bool) → (a || false) ≡ true → a ≡ true
-or-none true h = refl
-or-none false h = h
+-- no pass changes an order: what each asks of it is not so
+pub record LetBe (today last : ℕ) (os : List Order) (i : ℕ) (o : Order) : Type 0 where
+  pub one : givesWay (upTo last) os i o ≡ false
+  pub two : displaced (upTo last) os o ≡ false
+  pub three : overtaken today os o ≡ false
+  pub four : due (upTo last) o ≡ false
 
 module _ (today last : ℕ) (os : List Order) (i : ℕ) (o : Order) where
   -- ---- the pass that may change it
-  pub stirs-due : dueBy last o ≡ true → true ≡ stirs today last os i o
+  pub stirs-due : due (upTo last) o ≡ true → true ≡ stirs today last os i o
   unfolding stirs
-  stirs-due e = or-last (givesWay last os i o || displacedBy last os o || overtaken today os o) (dueBy last o) e
+  stirs-due e = or-last (givesWay (upTo last) os i o || displaced (upTo last) os o || overtaken today os o) (due (upTo last) o) e
 
   -- neither Scheduled nor Cancel Pending, or not in window: pass 3
-  stirs-far : (isStanding o && leb (o .scheduled) last) ≡ false → overtaken today os o ≡ stirs today last os i o
-  unfolding stirs givesWay displacedBy dueBy
+  stirs-far : (isStanding o && upTo last (o .scheduled)) ≡ false → overtaken today os o ≡ stirs today last os i o
+  unfolding stirs givesWay contends displaced due
   stirs-far far =
-      let near = leb (o .scheduled) last in
-      only-third (givesWay last os i o) (displacedBy last os o) (overtaken today os o) (dueBy last o)
-      (one (isSwitch o) (isStanding o) near (not (isAt (keptOn (o .scheduled) os) i)) far)
+      let near = upTo last (o .scheduled) in
+      only-third (givesWay (upTo last) os i o) (displaced (upTo last) os o) (overtaken today os o) (due (upTo last) o)
+      (one (isSwitch o) (isStanding o) near (not (isAt (kept (upTo last) os (o .scheduled)) i)) far)
       (two (hasKind massTransitionDrop o) (hasStatus scheduled o) (hasStatus cancelPending o) near (anyOf (switchOn (o .scheduled)) os) far)
       (four (hasStatus scheduled o) (hasStatus cancelPending o) (not (hasKind moveOut o)) (eqb (o .told) 0) near far)
     where
@@ -72,45 +74,41 @@ module _ (today last : ℕ) (os : List Order) (i : ℕ) (o : Order) where
   pub stirs-permit : o .status ≡ permitPending → overtaken today os o ≡ stirs today last os i o
   stirs-permit p = stirs-far (rw p)
 
-  module _ (p : o .status ≡ permitPending → ⊥) (d : dueBy last o ≡ false) where
-    pub stirs-switch : isSwitch o ≡ true → givesWay last os i o ≡ stirs today last os i o
+  module _ (p : o .status ≡ permitPending → ⊥) (d : due (upTo last) o ≡ false) where
+    pub stirs-switch : isSwitch o ≡ true → givesWay (upTo last) os i o ≡ stirs today last os i o
     unfolding stirs
     stirs-switch s =
-        only-first (givesWay last os i o) (displacedBy last os o) (overtaken today os o) (dueBy last o)
-        (sym (displaced-other last os o (λ k. false≢true (rw k at s))))
+        only-first (givesWay (upTo last) os i o) (displaced (upTo last) os o) (overtaken today os o) (due (upTo last) o)
+        (sym (displaced-other (upTo last) os o (λ k. false≢true (rw k at s))))
         (not-overtaken today os o (ne-eqb (o .status) permitPending p))
         d
 
-    pub stirs-other : isSwitch o ≡ false → displacedBy last os o ≡ stirs today last os i o
+    pub stirs-other : isSwitch o ≡ false → displaced (upTo last) os o ≡ stirs today last os i o
     unfolding stirs
     stirs-other s =
-        only-second (givesWay last os i o) (displacedBy last os o) (overtaken today os o) (dueBy last o)
-        (sym (way-other last os o i s))
+        only-second (givesWay (upTo last) os i o) (displaced (upTo last) os o) (overtaken today os o) (due (upTo last) o)
+        (no-switch (upTo last) os i o s)
         (not-overtaken today os o (ne-eqb (o .status) permitPending p))
         d
 
   -- ---- what it says by itself
   pub stirs-not : mayStir last o ≡ false → stirs today last os i o ≡ false
   stirs-not e =
-      let near = isStanding o && leb (o .scheduled) last in
+      let near = isStanding o && upTo last (o .scheduled) in
       sym (stirs-far (or-right (hasStatus permitPending o) near e)) ∙ not-overtaken today os o (or-left (hasStatus permitPending o) near e)
 
--- ---- where it says that it may, its own day does for the last one in window
-module _ (today last : ℕ) (os : List Order) (i : ℕ) (o : Order) where
-  own-same : mayStir last o ≡ true → stirs today last os i o ≡ stirs today (o .scheduled) os i o
-  unfolding stirs givesWay displacedBy dueBy
-  own-same = go (isStanding o && leb (o .scheduled) last) refl
-    where
-      go : (near : Bool) → (isStanding o && leb (o .scheduled) last) ≡ near → (hasStatus permitPending o || near) ≡ true → stirs today last os i o ≡ stirs today (o .scheduled) os i o
-      go true n e =
-          ap (λ (b : Bool). isSwitch o && isStanding o && b && not (isAt (keptOn (o .scheduled) os) i)
-          || hasKind massTransitionDrop o && hasStatus scheduled o && b && anyOf (switchOn (o .scheduled)) os
-          || overtaken today os o
-          || hasStatus scheduled o && not (hasKind moveOut o) && eqb (o .told) 0 && b)
-          (and-right (isStanding o) (leb (o .scheduled) last) n ∙ sym (own-day o))
-      go false n e =
-          let p = eqb-true (o .status) permitPending (or-none (hasStatus permitPending o) e) in
-          sym (stirs-permit today last os i o p) ∙ stirs-permit today (o .scheduled) os i o p
-
-  pub stirs-own : mayStir last o ≡ true → (answer said : Bool) → answer ≡ stirs today (o .scheduled) os i o → answer ≡ said → stirs today last os i o ≡ said
-  stirs-own may answer said e f = own-same may ∙ sym e ∙ f
+  -- ---- no pass
+  pub let-be : stirs today last os i o ≡ false → LetBe today last os i o
+  unfolding stirs
+  let-be e =
+      let a = givesWay (upTo last) os i o in
+      let b = displaced (upTo last) os o in
+      let c = overtaken today os o in
+      let three = or-left (a || b || c) (due (upTo last) o) e in
+      let two = or-left (a || b) c three in
+      record {
+        one = or-left a b two;
+        two = or-right a b two;
+        three = or-right (a || b) c three;
+        four = or-right (a || b || c) (due (upTo last) o) e;
+      }

@@ -1,13 +1,14 @@
 // The premise layer, inner: pass 4 of the evaluation on one order. The retailer that loses the premise is told once.
 ghost use mathlib.Core.Path.{_≡_};
+ghost use Rattle.days.specs.Window.{upTo};
 ghost use Rattle.premise.specs.Evaluation.{due, told};
 ghost use Rattle.premise.specs.Promises.{Room, DoneToOrder};
 use premise::Order;
 use premise::Stepped;
 
 // Whether the retailer that loses the premise by an order is due to be told.
-fn is_due(calendar: &[u8], today: u16, o: Order) -> bool
-    ensures { λ r. ⌜ r ≡ due (now (calendar .entry)) today o ⌝ }
+pub fn is_due(last: u16, o: Order) -> bool
+    ensures { λ r. ⌜ r ≡ due (upTo last) o ⌝ }
 {
     if o.status != premise::SCHEDULED {
         return false;
@@ -18,23 +19,22 @@ fn is_due(calendar: &[u8], today: u16, o: Order) -> bool
     if o.told != 0 {
         return false;
     }
-    premise_order_tests::is_near(calendar, today, o)
+    o.scheduled <= last
 }
 
 // Pass 4 on an order.
 pub fn tell(
-    calendar: &[u8],
-    today: u16,
+    last: u16,
     premise: u64,
     retailer: u32,
     o: Order,
     standing: usize,
     buffer: &mut [u8],
 ) -> Stepped
-    requires { ⌜ Room standing (told (now calendar) today premise retailer o .notices) (now buffer) ⌝ }
-    ensures { λ r. ⌜ DoneToOrder (told (now (calendar .entry)) today premise retailer o) standing r (now (buffer .entry)) (now (buffer .exit)) ⌝ }
+    requires { ⌜ Room standing (told (upTo last) premise retailer o .notices) (now buffer) ⌝ }
+    ensures { λ r. ⌜ DoneToOrder (told (upTo last) premise retailer o) standing r (now (buffer .entry)) (now (buffer .exit)) ⌝ }
 {
-    if !is_due(calendar, today, o) {
+    if !is_due(last, o) {
         return Stepped {
             order: o,
             sent: standing,

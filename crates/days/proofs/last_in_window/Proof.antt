@@ -22,7 +22,7 @@ is-business-day-requires : tie.Need-is-business-day-requires Inv-loop μ-loop
 is-business-day-requires c κs = search needs
 
 returns : tie.Need-returns Inv-loop μ-loop
-returns c = ends-here _ _ _ _ _ (c .before .before .before .before .loop .inv) (sym (c .before .before .is-business-day .ensures) ∙ c .before .if1 .taken) (c .if2 .taken) (omega arith)
+returns c = ends-here _ _ _ _ _ (c .before .before .before .before .loop .inv) (sym (c .before .before .is-business-day .ensures) ∙ c .before .if1 .taken) (omega (arith, c .if2 .taken)) (omega arith)
 
 sub-allowed : tie.Need-sub-allowed Inv-loop μ-loop
 sub-allowed c = search needs

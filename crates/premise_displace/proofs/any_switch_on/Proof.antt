@@ -7,7 +7,7 @@ use lib.ListN.{drop}
 use Rattle.lists.specs.Search.{anyOf}
 use Rattle.lists.proofs.Find.{any-hit, any-next, any-end}
 use Rattle.premise.specs.Orders.{held}
-use Rattle.premise_displace.specs.Others.{switchOn}
+use Rattle.premise.specs.Evaluation.{switchOn}
 use Rattle.premise.proofs.Places.{first-held, none-held}
 use Rattle.premise_displace.proofs.any_switch_on.Statement.{statement}
 use Rattle.premise_displace.proofs.any_switch_on.Tie as tie

@@ -7,7 +7,7 @@ use lib.ListN.{drop}
 use Rattle.lists.specs.Search.{anyOf}
 use Rattle.lists.proofs.Find.{any-hit, any-next, any-end}
 use Rattle.premise.specs.Orders.{held}
-use Rattle.premise_lapse.specs.Others.{overtakes}
+use Rattle.premise.specs.Evaluation.{overtakes}
 use Rattle.premise.proofs.Places.{first-held, none-held}
 use Rattle.premise_lapse.proofs.any_overtakes.Statement.{statement}
 use Rattle.premise_lapse.proofs.any_overtakes.Tie as tie

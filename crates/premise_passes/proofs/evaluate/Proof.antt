@@ -24,14 +24,14 @@ run-requires : tie.Need-run-requires
 run-requires c κs =
     let s = c .before .before .before .before .before in
     let a = s .args in
-    settle-ready (a .calendar .now) (a .today) (a .file) (s .pre .0) (a .standing) (a .buffer .now) (s .pre .1)
+    settle-ready (a .calendar .now) (a .today) (a .last) (s .pre .2) (a .file) (s .pre .0) (a .standing) (a .buffer .now) (s .pre .1)
 
 run-requires-2 : tie.Need-run-requires-2
 run-requires-2 c κs =
     let u = c .before .before .before .before in
     let s = u .before .before .before .before .before .before in
     let a = s .args in
-    displace-ready (a .calendar .now) (a .today) (a .file) (s .pre .0) (a .standing) (a .buffer .now) (s .pre .1) (u .run .result) (u .run .last .1 .1 .1 .1 .1 .0) (u .run .ensures)
+    displace-ready (a .calendar .now) (a .today) (a .last) (s .pre .2) (a .file) (s .pre .0) (a .standing) (a .buffer .now) (s .pre .1) (u .run .result) (u .run .last .1 .1 .1 .1 .1 .0) (u .run .ensures)
 
 run-requires-3 : tie.Need-run-requires-3
 run-requires-3 c κs =
@@ -39,7 +39,7 @@ run-requires-3 c κs =
     let u = v .before .before .before .before .before in
     let s = u .before .before .before .before .before .before in
     let a = s .args in
-    lapse-ready (a .calendar .now) (a .today) (a .file) (s .pre .0) (a .standing) (a .buffer .now) (s .pre .1) (u .run .result) (u .run .last .1 .1 .1 .1 .1 .0) (u .run .ensures) (v .run2 .result) (v .run2 .last .1 .1 .1 .1 .1 .0) (v .run2 .ensures)
+    lapse-ready (a .calendar .now) (a .today) (a .last) (s .pre .2) (a .file) (s .pre .0) (a .standing) (a .buffer .now) (s .pre .1) (u .run .result) (u .run .last .1 .1 .1 .1 .1 .0) (u .run .ensures) (v .run2 .result) (v .run2 .last .1 .1 .1 .1 .1 .0) (v .run2 .ensures)
 
 run-requires-4 : tie.Need-run-requires-4
 run-requires-4 c κs =
@@ -48,7 +48,7 @@ run-requires-4 c κs =
     let u = v .before .before .before .before .before in
     let s = u .before .before .before .before .before .before in
     let a = s .args in
-    tell-ready (a .calendar .now) (a .today) (a .file) (s .pre .0) (a .standing) (a .buffer .now) (s .pre .1) (u .run .result) (u .run .last .1 .1 .1 .1 .1 .0) (u .run .ensures) (v .run2 .result) (v .run2 .last .1 .1 .1 .1 .1 .0) (v .run2 .ensures) (w .run3 .result) (w .run3 .last .1 .1 .1 .1 .1 .0) (w .run3 .ensures)
+    tell-ready (a .calendar .now) (a .today) (a .last) (s .pre .2) (a .file) (s .pre .0) (a .standing) (a .buffer .now) (s .pre .1) (u .run .result) (u .run .last .1 .1 .1 .1 .1 .0) (u .run .ensures) (v .run2 .result) (v .run2 .last .1 .1 .1 .1 .1 .0) (v .run2 .ensures) (w .run3 .result) (w .run3 .last .1 .1 .1 .1 .1 .0) (w .run3 .ensures)
 
 same-length : tie.Need-same-length
 same-length c =
@@ -59,7 +59,7 @@ same-length c =
     let s = u .before .before .before .before .before .before in
     let a = s .args in
     writes-length (a .standing) (a .buffer .now) (evaluated (a .calendar .now) (a .today) (a .file) .notices) (s .pre .1) (x .run4 .last .1 .1 .1 .1 .1 .0) (x .run4 .result .sent)
-    (evaluate-done (a .calendar .now) (a .today) (a .file) (s .pre .0) (a .standing) (a .buffer .now) (s .pre .1) (u .run .result) (u .run .last .1 .1 .1 .1 .1 .0) (u .run .ensures) (v .run2 .result) (v .run2 .last .1 .1 .1 .1 .1 .0) (v .run2 .ensures) (w .run3 .result) (w .run3 .last .1 .1 .1 .1 .1 .0) (w .run3 .ensures) (x .run4 .result) (x .run4 .last .1 .1 .1 .1 .1 .0) (x .run4 .ensures) .wrote)
+    (evaluate-done (a .calendar .now) (a .today) (a .last) (s .pre .2) (a .file) (s .pre .0) (a .standing) (a .buffer .now) (s .pre .1) (u .run .result) (u .run .last .1 .1 .1 .1 .1 .0) (u .run .ensures) (v .run2 .result) (v .run2 .last .1 .1 .1 .1 .1 .0) (v .run2 .ensures) (w .run3 .result) (w .run3 .last .1 .1 .1 .1 .1 .0) (w .run3 .ensures) (x .run4 .result) (x .run4 .last .1 .1 .1 .1 .1 .0) (x .run4 .ensures) .wrote)
 
 returns-2 : tie.Need-returns-2
 returns-2 c =
@@ -69,7 +69,7 @@ returns-2 c =
     let u = v .before .before .before .before .before in
     let s = u .before .before .before .before .before .before in
     let a = s .args in
-    evaluate-done (a .calendar .now) (a .today) (a .file) (s .pre .0) (a .standing) (a .buffer .now) (s .pre .1) (u .run .result) (u .run .last .1 .1 .1 .1 .1 .0) (u .run .ensures) (v .run2 .result) (v .run2 .last .1 .1 .1 .1 .1 .0) (v .run2 .ensures) (w .run3 .result) (w .run3 .last .1 .1 .1 .1 .1 .0) (w .run3 .ensures) (x .run4 .result) (x .run4 .last .1 .1 .1 .1 .1 .0) (x .run4 .ensures)
+    evaluate-done (a .calendar .now) (a .today) (a .last) (s .pre .2) (a .file) (s .pre .0) (a .standing) (a .buffer .now) (s .pre .1) (u .run .result) (u .run .last .1 .1 .1 .1 .1 .0) (u .run .ensures) (v .run2 .result) (v .run2 .last .1 .1 .1 .1 .1 .0) (v .run2 .ensures) (w .run3 .result) (w .run3 .last .1 .1 .1 .1 .1 .0) (w .run3 .ensures) (x .run4 .result) (x .run4 .last .1 .1 .1 .1 .1 .0) (x .run4 .ensures)
 
 pub evaluate-spec : {M : Type 1} → statement M
 evaluate-spec =

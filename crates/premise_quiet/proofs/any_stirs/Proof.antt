@@ -8,7 +8,7 @@ use lib.ListN.{drop}
 use Rattle.premise.specs.declared.Order.{Order}
 use Rattle.premise.specs.Orders.{held}
 use Rattle.premise_stirs.specs.Stirs.{stirs}
-use Rattle.premise_stirs.proofs.Stirs.{stirs-not, stirs-own}
+use Rattle.premise_stirs.proofs.Stirs.{stirs-not}
 use Rattle.premise_quiet.specs.Quiet.{anyAt}
 use Rattle.premise_quiet.proofs.Places.{at-hit, at-next, at-end}
 use Rattle.premise_quiet.proofs.any_stirs.Statement.{statement}
@@ -51,7 +51,7 @@ returns c =
     let l = m .before .before .before in
     let s = l .before in
     at-hit (test l) (s .args .t3) (s .pre) (l .loop .i) (l .loop .inv .1) (search needs)
-    (stirs-own _ _ _ _ _ (sym (m .may-stir .ensures) ∙ k .before .if1 .taken) _ _ (k .is-stirring .ensures) (c .if2 .taken))
+    (sym (k .is-stirring .ensures) ∙ c .if2 .taken)
 
 loop-less : tie.Need-loop-less Inv-loop μ-loop
 loop-less c = search needs
@@ -62,7 +62,7 @@ loop-again c =
     let m = k .before .before in
     let l = m .before .before .before in
     let s = l .before in
-    (search needs, at-next (test l) (s .args .t3) (s .pre) (l .loop .i) (l .loop .inv .1) (search needs) (stirs-own _ _ _ _ _ (sym (m .may-stir .ensures) ∙ k .before .if1 .taken) _ _ (k .is-stirring .ensures) (c .if2 .left)))
+    (search needs, at-next (test l) (s .args .t3) (s .pre) (l .loop .i) (l .loop .inv .1) (search needs) (sym (k .is-stirring .ensures) ∙ c .if2 .left))
 
 loop-less-2 : tie.Need-loop-less-2 Inv-loop μ-loop
 loop-less-2 c = search needs

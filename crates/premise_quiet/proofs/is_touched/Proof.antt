@@ -7,7 +7,7 @@ use borrow.Author.Needs.{needs}
 use lib.ListN.{drop}
 use Rattle.premise.specs.declared.Order.{Order}
 use Rattle.premise.specs.Orders.{held}
-use Rattle.premise_stirs.proofs.Stirs.{stirs-not, stirs-own}
+use Rattle.premise_stirs.proofs.Stirs.{stirs-not}
 use Rattle.premise_quiet.specs.Quiet.{anyAt, touches, touched}
 use Rattle.premise_quiet.proofs.Places.{touches-moves, at-hit, at-next, at-end}
 use Rattle.premise_quiet.proofs.is_touched.Statement.{statement}
@@ -61,7 +61,7 @@ returns-2 c =
     let l = w .before .before .before in
     let s = l .before in
     at-hit (test l) (s .args .t4) (s .pre) (l .loop .i) (l .loop .inv .1) (search needs)
-    (ap₂ _||_ (sym (w .is-moving .ensures) ∙ m .before .if1 .left) (stirs-own _ _ _ _ _ (sym (m .may-stir .ensures) ∙ k .before .if2 .taken) _ _ (k .is-stirring .ensures) (c .if3 .taken)))
+    (ap₂ _||_ (sym (w .is-moving .ensures) ∙ m .before .if1 .left) (sym (k .is-stirring .ensures) ∙ c .if3 .taken))
 
 loop-less : tie.Need-loop-less Inv-loop μ-loop
 loop-less c = search needs
@@ -73,7 +73,7 @@ loop-again c =
     let w = m .before .before in
     let l = w .before .before .before in
     let s = l .before in
-    (search needs, at-next (test l) (s .args .t4) (s .pre) (l .loop .i) (l .loop .inv .1) (search needs) (ap₂ _||_ (sym (w .is-moving .ensures) ∙ m .before .if1 .left) (stirs-own _ _ _ _ _ (sym (m .may-stir .ensures) ∙ k .before .if2 .taken) _ _ (k .is-stirring .ensures) (c .if3 .left))))
+    (search needs, at-next (test l) (s .args .t4) (s .pre) (l .loop .i) (l .loop .inv .1) (search needs) (ap₂ _||_ (sym (w .is-moving .ensures) ∙ m .before .if1 .left) (sym (k .is-stirring .ensures) ∙ c .if3 .left)))
 
 loop-less-2 : tie.Need-loop-less-2 Inv-loop μ-loop
 loop-less-2 c = search needs

@@ -6,6 +6,7 @@ use borrow.Author.Needs.{needs}
 use lib.ListN.{drop}
 use Rattle.lists.specs.Search.{placeFrom, placeOf}
 use Rattle.lists.proofs.Find.{place-hit, place-next, place-end}
+use Rattle.days.specs.Window.{upTo}
 use Rattle.premise.specs.Orders.{held}
 use Rattle.premise_rivals.specs.Rivals.{rival}
 use Rattle.premise.proofs.Places.{first-held, none-held}
@@ -13,10 +14,10 @@ use Rattle.premise_rivals.proofs.first_rival.Statement.{statement}
 use Rattle.premise_rivals.proofs.first_rival.Tie as tie
 
 abbrev Inv-loop : tie.InvT-loop
-Inv-loop day only file n i₀ i = (i ≤ n) × (placeFrom (rival day only) i (drop i (held file)) ≡ placeOf (rival day only) (held file))
+Inv-loop last day only file n i₀ i = (i ≤ n) × (placeFrom (rival (upTo last) day only) i (drop i (held file)) ≡ placeOf (rival (upTo last) day only) (held file))
 
 abbrev μ-loop : tie.MeasureT-loop
-μ-loop day only file n i₀ i = n - i
+μ-loop last day only file n i₀ i = n - i
 
 loop-holds : tie.Need-loop-holds Inv-loop μ-loop
 loop-holds c = search needs
@@ -34,7 +35,7 @@ returns : tie.Need-returns Inv-loop μ-loop
 returns c =
     let l = c .before .before .before .before in
     let s = l .before in
-    sym (place-hit (rival (s .args .day) (s .args .only)) (first-held (s .args .t1) (s .pre) (l .loop .i) (search needs)) (l .loop .i) (sym (c .before .is-rival .ensures) ∙ c .if1 .taken)) ∙ l .loop .inv .1
+    sym (place-hit (rival (upTo (s .args .last)) (s .args .day) (s .args .only)) (first-held (s .args .t1) (s .pre) (l .loop .i) (search needs)) (l .loop .i) (sym (c .before .is-rival .ensures) ∙ c .if1 .taken)) ∙ l .loop .inv .1
 
 add-i : tie.Need-add-i Inv-loop μ-loop
 add-i c = search needs
@@ -46,13 +47,13 @@ loop-again : tie.Need-loop-again Inv-loop μ-loop
 loop-again c =
     let l = c .before .before .before .before in
     let s = l .before in
-    (search needs, sym (place-next (rival (s .args .day) (s .args .only)) (first-held (s .args .t1) (s .pre) (l .loop .i) (search needs)) (l .loop .i) (sym (c .before .is-rival .ensures) ∙ c .if1 .left)) ∙ l .loop .inv .1)
+    (search needs, sym (place-next (rival (upTo (s .args .last)) (s .args .day) (s .args .only)) (first-held (s .args .t1) (s .pre) (l .loop .i) (search needs)) (l .loop .i) (sym (c .before .is-rival .ensures) ∙ c .if1 .left)) ∙ l .loop .inv .1)
 
 returns-2 : tie.Need-returns-2 Inv-loop μ-loop
 returns-2 c =
     let l = c .before in
     let s = l .before in
-    sym (place-end (rival (s .args .day) (s .args .only)) (none-held (s .args .t1) (s .pre) (l .loop .i) (search needs)) (l .loop .i)) ∙ l .loop .inv .1
+    sym (place-end (rival (upTo (s .args .last)) (s .args .day) (s .args .only)) (none-held (s .args .t1) (s .pre) (l .loop .i) (search needs)) (l .loop .i)) ∙ l .loop .inv .1
 
 pub first-rival-spec : {M : Type 1} → statement M
 first-rival-spec =

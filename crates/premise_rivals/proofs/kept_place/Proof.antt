@@ -1,6 +1,7 @@
 -- `premise_rivals::kept_place` meets its contract: what the first search finds picks the case of `orElse`. Assumes nothing.
 use mathlib.Core.Path.{sym, _∙_}
 use borrow.Author.Needs.{needs}
+use Rattle.days.specs.Window.{upTo}
 use Rattle.premise.specs.Orders.{held}
 use Rattle.premise_rivals.proofs.Cases.{kept-first, kept-other}
 use Rattle.premise_rivals.proofs.kept_place.Statement.{statement}
@@ -21,12 +22,12 @@ first-rival-requires-2 c κs = search needs
 returns : tie.Need-returns
 returns c =
     let w = c .before .before .before in
-    kept-first (w .before .args .day) (held (w .before .args .file)) _ (sym (w .first-rival .ensures) ∙ c .before .first .given .1)
+    kept-first (upTo (w .before .args .last)) (w .before .args .day) (held (w .before .args .file)) _ (sym (w .first-rival .ensures) ∙ c .before .first .given .1)
 
 returns-2 : tie.Need-returns-2
 returns-2 c =
     let w = c .before .before .before in
-    c .first-rival2 .ensures ∙ kept-other (w .before .args .day) (held (w .before .args .file)) (sym (w .first-rival .ensures) ∙ c .before .enum-told .given .1)
+    c .first-rival2 .ensures ∙ kept-other (upTo (w .before .args .last)) (w .before .args .day) (held (w .before .args .file)) (sym (w .first-rival .ensures) ∙ c .before .enum-told .given .1)
 
 pub kept-place-spec : {M : Type 1} → statement M
 kept-place-spec =

@@ -1,6 +1,7 @@
 -- `premise_run::change` meets its contract: the pass picks the step. Assumes nothing.
 use mathlib.Core.Path.{ap}
 use borrow.Author.Needs.{needs}
+use Rattle.days.specs.Window.{upTo}
 use Rattle.premise.specs.Orders.{held}
 use Rattle.premise_changes.proofs.Done.{room-case, done-case}
 use Rattle.premise_run.specs.declared.Pass.{Pass}
@@ -13,36 +14,36 @@ enum-told c = search needs
 
 settle-requires : tie.Need-settle-requires
 settle-requires c κs =
-    let s = c .before .before .before .before .before in
+    let s = c .before .before .before .before in
     let a = s .args in
-    (s .pre .0, room-case _ (a .standing) (a .buffer .now) _ (ap (λ (w : Pass). stepOf w (a .calendar .now) (a .today) (a .file .premise) (a .file .retailer) (held (a .file)) (a .i) (a .o)) (c .before .enum-told .given .1)) (s .pre .1))
+    (s .pre .0, room-case _ (a .standing) (a .buffer .now) _ (ap (λ (w : Pass). stepOf w (upTo (a .last)) (a .today) (a .file .premise) (a .file .retailer) (held (a .file)) (a .i) (a .o)) (c .before .enum-told .given .1)) (s .pre .1))
 
 enum-told-2 : tie.Need-enum-told-2
 enum-told-2 c = search needs
 
 displace-requires : tie.Need-displace-requires
 displace-requires c κs =
-    let s = c .before .before .before .before .before in
+    let s = c .before .before .before .before in
     let a = s .args in
-    (s .pre .0, room-case _ (a .standing) (a .buffer .now) _ (ap (λ (w : Pass). stepOf w (a .calendar .now) (a .today) (a .file .premise) (a .file .retailer) (held (a .file)) (a .i) (a .o)) (c .before .enum-told2 .given .1)) (s .pre .1))
+    (s .pre .0, room-case _ (a .standing) (a .buffer .now) _ (ap (λ (w : Pass). stepOf w (upTo (a .last)) (a .today) (a .file .premise) (a .file .retailer) (held (a .file)) (a .i) (a .o)) (c .before .enum-told2 .given .1)) (s .pre .1))
 
 enum-told-3 : tie.Need-enum-told-3
 enum-told-3 c = search needs
 
 lapse-requires : tie.Need-lapse-requires
 lapse-requires c κs =
-    let s = c .before .before .before .before .before in
+    let s = c .before .before .before .before in
     let a = s .args in
-    (s .pre .0, room-case _ (a .standing) (a .buffer .now) _ (ap (λ (w : Pass). stepOf w (a .calendar .now) (a .today) (a .file .premise) (a .file .retailer) (held (a .file)) (a .i) (a .o)) (c .before .enum-told3 .given .1)) (s .pre .1))
+    (s .pre .0, room-case _ (a .standing) (a .buffer .now) _ (ap (λ (w : Pass). stepOf w (upTo (a .last)) (a .today) (a .file .premise) (a .file .retailer) (held (a .file)) (a .i) (a .o)) (c .before .enum-told3 .given .1)) (s .pre .1))
 
 enum-told-4 : tie.Need-enum-told-4
 enum-told-4 c = search needs
 
 tell-requires : tie.Need-tell-requires
 tell-requires c κs =
-    let s = c .before .before .before .before .before in
+    let s = c .before .before .before .before in
     let a = s .args in
-    room-case _ (a .standing) (a .buffer .now) _ (ap (λ (w : Pass). stepOf w (a .calendar .now) (a .today) (a .file .premise) (a .file .retailer) (held (a .file)) (a .i) (a .o)) (c .before .enum-told4 .given .1)) (s .pre .1)
+    room-case _ (a .standing) (a .buffer .now) _ (ap (λ (w : Pass). stepOf w (upTo (a .last)) (a .today) (a .file .premise) (a .file .retailer) (held (a .file)) (a .i) (a .o)) (c .before .enum-told4 .given .1)) (s .pre .1)
 
 same-length : tie.Need-same-length
 same-length c = search needs
@@ -50,8 +51,8 @@ same-length c = search needs
 returns : tie.Need-returns
 returns c =
     let k = c .before .before in
-    let a = k .before .before .before .before .before .before .args in
-    done-case _ (a .standing) (a .buffer .now) _ (ap (λ (w : Pass). stepOf w (a .calendar .now) (a .today) (a .file .premise) (a .file .retailer) (held (a .file)) (a .i) (a .o)) (k .before .before .enum-told .given .1)) (k .settle .result) _ (k .settle .ensures)
+    let a = k .before .before .before .before .before .args in
+    done-case _ (a .standing) (a .buffer .now) _ (ap (λ (w : Pass). stepOf w (upTo (a .last)) (a .today) (a .file .premise) (a .file .retailer) (held (a .file)) (a .i) (a .o)) (k .before .before .enum-told .given .1)) (k .settle .result) _ (k .settle .ensures)
 
 same-length-2 : tie.Need-same-length-2
 same-length-2 c = search needs
@@ -59,8 +60,8 @@ same-length-2 c = search needs
 returns-2 : tie.Need-returns-2
 returns-2 c =
     let k = c .before .before in
-    let a = k .before .before .before .before .before .before .args in
-    done-case _ (a .standing) (a .buffer .now) _ (ap (λ (w : Pass). stepOf w (a .calendar .now) (a .today) (a .file .premise) (a .file .retailer) (held (a .file)) (a .i) (a .o)) (k .before .before .enum-told2 .given .1)) (k .displace .result) _ (k .displace .ensures)
+    let a = k .before .before .before .before .before .args in
+    done-case _ (a .standing) (a .buffer .now) _ (ap (λ (w : Pass). stepOf w (upTo (a .last)) (a .today) (a .file .premise) (a .file .retailer) (held (a .file)) (a .i) (a .o)) (k .before .before .enum-told2 .given .1)) (k .displace .result) _ (k .displace .ensures)
 
 same-length-3 : tie.Need-same-length-3
 same-length-3 c = search needs
@@ -68,8 +69,8 @@ same-length-3 c = search needs
 returns-3 : tie.Need-returns-3
 returns-3 c =
     let k = c .before .before in
-    let a = k .before .before .before .before .before .before .args in
-    done-case _ (a .standing) (a .buffer .now) _ (ap (λ (w : Pass). stepOf w (a .calendar .now) (a .today) (a .file .premise) (a .file .retailer) (held (a .file)) (a .i) (a .o)) (k .before .before .enum-told3 .given .1)) (k .lapse .result) _ (k .lapse .ensures)
+    let a = k .before .before .before .before .before .args in
+    done-case _ (a .standing) (a .buffer .now) _ (ap (λ (w : Pass). stepOf w (upTo (a .last)) (a .today) (a .file .premise) (a .file .retailer) (held (a .file)) (a .i) (a .o)) (k .before .before .enum-told3 .given .1)) (k .lapse .result) _ (k .lapse .ensures)
 
 same-length-4 : tie.Need-same-length-4
 same-length-4 c = search needs
@@ -77,8 +78,8 @@ same-length-4 c = search needs
 returns-4 : tie.Need-returns-4
 returns-4 c =
     let k = c .before .before in
-    let a = k .before .before .before .before .before .before .args in
-    done-case _ (a .standing) (a .buffer .now) _ (ap (λ (w : Pass). stepOf w (a .calendar .now) (a .today) (a .file .premise) (a .file .retailer) (held (a .file)) (a .i) (a .o)) (k .before .before .enum-told4 .given .1)) (k .tell .result) _ (k .tell .ensures)
+    let a = k .before .before .before .before .before .args in
+    done-case _ (a .standing) (a .buffer .now) _ (ap (λ (w : Pass). stepOf w (upTo (a .last)) (a .today) (a .file .premise) (a .file .retailer) (held (a .file)) (a .i) (a .o)) (k .before .before .enum-told4 .given .1)) (k .tell .result) _ (k .tell .ensures)
 
 pub change-spec : {M : Type 1} → statement M
 change-spec =

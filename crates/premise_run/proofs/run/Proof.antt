@@ -2,6 +2,7 @@
 -- The measure is the places left. Assumes nothing.
 use Prim.Native.Nat.{ℕ, _-_}
 use borrow.Author.Needs.{needs}
+use Rattle.days.specs.Window.{upTo}
 use Rattle.premise.specs.declared.Order.{Order}
 use Rattle.premise.specs.Orders.{held}
 use Rattle.premise.specs.Passes.{Change}
@@ -11,17 +12,17 @@ use Rattle.premise_run.proofs.run.Statement.{statement}
 use Rattle.premise_run.proofs.run.Tie as tie
 
 abbrev Inv-loop : tie.InvT-loop
-Inv-loop which calendar today standing buffer₀ file n out₀ sent₀ i₀ buffer out sent i =
-    Sofar (stepOf which calendar today (file .premise) (file .retailer) (held file)) file standing buffer₀ i sent out buffer
+Inv-loop which today last standing buffer₀ file n out₀ sent₀ i₀ buffer out sent i =
+    Sofar (stepOf which (upTo last) today (file .premise) (file .retailer) (held file)) file standing buffer₀ i sent out buffer
 
 abbrev μ-loop : tie.MeasureT-loop
-μ-loop which calendar today standing buffer₀ file n out₀ sent₀ i₀ buffer out sent i = n - i
+μ-loop which today last standing buffer₀ file n out₀ sent₀ i₀ buffer out sent i = n - i
 
 -- the step, as the loop has it
 abbrev step : tie.At-loop Inv-loop μ-loop → ℕ → Order → Change
 step l =
-    let a = l .before .before .before .args in
-    stepOf (a .which) (a .calendar .now) (a .today) (a .t4 .premise) (a .t4 .retailer) (held (a .t4))
+    let a = l .before .before .args in
+    stepOf (a .which) (upTo (a .last)) (a .today) (a .t4 .premise) (a .t4 .retailer) (held (a .t4))
 
 loop-holds : tie.Need-loop-holds Inv-loop μ-loop
 loop-holds c = sofar-none _ _ _ _
@@ -35,7 +36,7 @@ element-copy-out-o c = search needs
 change-requires : tie.Need-change-requires Inv-loop μ-loop
 change-requires c κs =
     let l = c .before .before .before in
-    let s = l .before .before .before in
+    let s = l .before .before in
     let a = s .args in
     (s .pre .0, sofar-room (step l) (a .t4) (s .pre .0) (a .standing) (a .buffer .now) (s .pre .1) (l .loop .i) (l .loop .sent) (l .loop .out) (l .loop .buffer) (l .loop .inv) (c .before .before .loop-test .taken))
 
@@ -55,7 +56,7 @@ loop-again : tie.Need-loop-again Inv-loop μ-loop
 loop-again c =
     let k = c .before .before .before in
     let l = k .before .before .before .before in
-    let s = l .before .before .before in
+    let s = l .before .before in
     let a = s .args in
     sofar-turn (step l) (a .t4) (s .pre .0) (a .standing) (a .buffer .now) (s .pre .1) (l .loop .i) (l .loop .sent) (l .loop .out) (l .loop .buffer) (l .loop .inv) (k .before .before .before .loop-test .taken)
     (k .change .result) _ (k .change .ensures)
@@ -63,14 +64,14 @@ loop-again c =
 same-length : tie.Need-same-length Inv-loop μ-loop
 same-length c =
     let l = c .before in
-    let s = l .before .before .before in
+    let s = l .before .before in
     let a = s .args in
     sofar-length (step l) (a .t4) (s .pre .0) (a .standing) (a .buffer .now) (s .pre .1) (l .loop .i) (l .loop .sent) (l .loop .out) (l .loop .buffer) (l .loop .inv)
 
 returns : tie.Need-returns Inv-loop μ-loop
 returns c =
     let l = c .before in
-    let s = l .before .before .before in
+    let s = l .before .before in
     let a = s .args in
     sofar-all (step l) (a .t4) (s .pre .0) (a .standing) (a .buffer .now) (l .loop .i) (l .loop .sent) (l .loop .out) (l .loop .buffer) (l .loop .inv) (c .loop-test .left)
 

@@ -2,8 +2,9 @@
 use mathlib.Core.Path.{sym, _∙_}
 use borrow.Author.Needs.{needs}
 use borrow.Author.Tests.{not-true, not-false}
+use Rattle.days.specs.Window.{upTo}
 use Rattle.premise.specs.Orders.{held}
-use Rattle.premise_settle.proofs.Cases.{way-none, way-contends}
+use Rattle.premise_settle.proofs.Cases.{way-none, way-found}
 use Rattle.premise_settle.proofs.gives_way.Statement.{statement}
 use Rattle.premise_settle.proofs.gives_way.Tie as tie
 
@@ -13,18 +14,40 @@ is-contender-requires c κs = search needs
 returns : tie.Need-returns
 returns c =
     let w = c .before in
-    let a = w .before .before .args in
-    way-none (a .calendar .now) (a .today) (a .o) (held (a .file)) (a .i) (sym (w .is-contender .ensures) ∙ not-true _ (c .if1 .taken))
+    let a = w .before .args in
+    way-none (upTo (a .last)) (held (a .file)) (a .i) (a .o) (sym (w .is-contender .ensures) ∙ not-true _ (c .if1 .taken))
 
-kept-elsewhere-requires : tie.Need-kept-elsewhere-requires
-kept-elsewhere-requires c κs = search needs
+kept-place-requires : tie.Need-kept-place-requires
+kept-place-requires c κs = search needs
+
+enum-known-place : tie.Need-enum-known-place
+enum-known-place c = search needs
+
+enum-told : tie.Need-enum-told
+enum-told c = search needs
 
 returns-2 : tie.Need-returns-2
 returns-2 c =
-    let w = c .before .before in
-    let a = w .before .before .args in
-    c .kept-elsewhere .ensures
-    ∙ way-contends (a .calendar .now) (a .today) (a .o) (held (a .file)) (a .i) (sym (w .is-contender .ensures) ∙ not-false _ (c .before .if1 .left))
+    let k = c .before .before .before in
+    let w = k .before .before in
+    let a = w .before .args in
+    way-found (upTo (a .last)) (held (a .file)) (a .i) (a .o) _ (sym (w .is-contender .ensures) ∙ not-false _ (k .before .if1 .left)) (sym (k .kept-place .ensures) ∙ c .before .place .given .1)
+
+returns-3 : tie.Need-returns-3
+returns-3 c =
+    let k = c .before .before in
+    let w = k .before .before in
+    let a = w .before .args in
+    way-found (upTo (a .last)) (held (a .file)) (a .i) (a .o) _ (sym (w .is-contender .ensures) ∙ not-false _ (k .before .if1 .left)) (sym (k .kept-place .ensures) ∙ c .enum-told .given .1)
 
 pub gives-way-spec : {M : Type 1} → statement M
-gives-way-spec = tie.close (tie.spec is-contender-requires returns kept-elsewhere-requires returns-2)
+gives-way-spec =
+    tie.close
+    (tie.spec
+    is-contender-requires
+    returns
+    kept-place-requires
+    enum-known-place
+    enum-told
+    returns-2
+    returns-3)

@@ -1,5 +1,7 @@
 -- `premise_settle::settle` meets its contract: whether the order gives way picks the case of `settled`. Assumes nothing.
+use mathlib.Core.Path.{sym, _∙_}
 use borrow.Author.Needs.{needs}
+use Rattle.days.specs.Window.{upTo}
 use Rattle.premise.specs.Orders.{held}
 use Rattle.premise_settle.proofs.Cases.{settle-cancels, settle-same}
 use Rattle.premise_changes.proofs.Done.{room-case, done-case, done-none}
@@ -12,9 +14,9 @@ gives-way-requires c κs = search needs
 cancel-requires : tie.Need-cancel-requires
 cancel-requires c κs =
     let w = c .before .before in
-    let s = w .before .before .before in
+    let s = w .before .before in
     let a = s .args in
-    room-case _ (a .standing) (a .buffer .now) _ (settle-cancels (a .calendar .now) (a .today) (a .o) (held (a .file)) (a .i) (a .file .premise) (w .gives-way .result) (w .gives-way .ensures) (c .before .if1 .taken)) (s .pre .1)
+    room-case _ (a .standing) (a .buffer .now) _ (settle-cancels (upTo (a .last)) (held (a .file)) (a .i) (a .o) (a .file .premise) (sym (w .gives-way .ensures) ∙ c .before .if1 .taken)) (s .pre .1)
 
 same-length : tie.Need-same-length
 same-length c = search needs
@@ -23,15 +25,14 @@ returns : tie.Need-returns
 returns c =
     let k = c .before .before in
     let w = k .before .before .before in
-    let a = w .before .before .before .args in
-    done-case _ (a .standing) (a .buffer .now) _ (settle-cancels (a .calendar .now) (a .today) (a .o) (held (a .file)) (a .i) (a .file .premise) (w .gives-way .result) (w .gives-way .ensures) (k .before .before .if1 .taken)) (k .cancel .result) _
-    (k .cancel .ensures)
+    let a = w .before .before .args in
+    done-case _ (a .standing) (a .buffer .now) _ (settle-cancels (upTo (a .last)) (held (a .file)) (a .i) (a .o) (a .file .premise) (sym (w .gives-way .ensures) ∙ k .before .before .if1 .taken)) (k .cancel .result) _ (k .cancel .ensures)
 
 returns-2 : tie.Need-returns-2
 returns-2 c =
     let w = c .before in
-    let a = w .before .before .before .args in
-    done-none _ (a .standing) (a .buffer .now) (a .o) (settle-same (a .calendar .now) (a .today) (a .o) (held (a .file)) (a .i) (a .file .premise) (w .gives-way .result) (w .gives-way .ensures) (c .if1 .left))
+    let a = w .before .before .args in
+    done-none _ (a .standing) (a .buffer .now) (a .o) (settle-same (upTo (a .last)) (held (a .file)) (a .i) (a .o) (a .file .premise) (sym (w .gives-way .ensures) ∙ c .if1 .left))
 
 pub settle-spec : {M : Type 1} → statement M
 settle-spec = tie.close (tie.spec gives-way-requires cancel-requires same-length returns returns-2)

@@ -24,9 +24,8 @@ use Rattle.premise.proofs.Answers.{answer-is-first-row, refusal-is, mark-step}
 use Rattle.premise.proofs.Table.{accepted-is-zero}
 use Rattle.book.specs.declared.Book.{Book}
 use Rattle.book.specs.Book.{filesOf, bookOf, fileFor, withFile}
-use Rattle.book.specs.Calls.{noticeBytes, recordRows, premiseState, Result, onMark, onPremise, onReading, refusal, call}
+use Rattle.book.specs.Calls.{noticeBytes, recordRows, premiseState, Result, onMark, onPremise, onReading, refusal, call, meetsRow6}
 use Rattle.book.specs.Laws.{BookKept}
-use Rattle.book.specs.Demand3.{meetsRow6}
 use Rattle.book.proofs.Files.{rises-rising}
 use Rattle.book.proofs.SameFiles.{with-same}
 use Rattle.book.proofs.Kept.{book-kept-means}

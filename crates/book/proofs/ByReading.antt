@@ -23,9 +23,8 @@ use Rattle.premise.specs.Refusals.{Row, row, firstRow, isHeld, ordersOf, premis
 use Rattle.premise.specs.OnePremise.{marked}
 use Rattle.premise.proofs.Table.{needs-file}
 use Rattle.book.specs.Book.{mostFiles, filesOf, bookOf, fileFor}
-use Rattle.book.specs.Calls.{recordRows, markedFiles, call}
+use Rattle.book.specs.Calls.{recordRows, markedFiles, call, meetsRow6}
 use Rattle.book.specs.Laws.{numbersOf, CallMalformed, CallNotHeld, CallOnMark, MarkKeepsNumbers}
-use Rattle.book.specs.Demand3.{meetsRow6}
 use Rattle.book.proofs.Kept.{book-kept-means}
 use Rattle.book.proofs.Rows.{not-held-refuses, record-decides}
 use Rattle.book.proofs.Marks.{marked-one}

@@ -22,9 +22,8 @@ use Rattle.premise.specs.OnePremise.{Given, step}
 use Rattle.premise.specs.Laws.{Held, KeptFor}
 use Rattle.book.specs.declared.Book.{Book}
 use Rattle.book.specs.Book.{mostFiles, filesOf, bookOf, bookKept, fileFor, putIn, withFile}
-use Rattle.book.specs.Calls.{noticeBytes, premiseState, Result, call}
+use Rattle.book.specs.Calls.{noticeBytes, premiseState, Result, call, meetsRow6}
 use Rattle.book.specs.Laws.{BookKept, OnHeld, givenAt, withFileAt, numbersOf, CallOnHeld}
-use Rattle.book.specs.Demand3.{meetsRow6}
 use Rattle.book.proofs.Files.{Rising, rises-rising, found-head, found-tail, put-over, put-after}
 use Rattle.book.proofs.Kept.{count-is, book-kept-means}
 use Rattle.book.proofs.Keeps.{step-kept-file, call-keeps}

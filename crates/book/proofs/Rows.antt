@@ -25,8 +25,7 @@ use Rattle.premise.proofs.Answers.{first-row-skips, answer-is-first-row, zero-w
 use Rattle.premise.proofs.Table.{accepted-is-zero, create-held}
 use Rattle.book.specs.declared.Book.{Book}
 use Rattle.book.specs.Book.{mostFiles, filesOf, bookKept, fileFor}
-use Rattle.book.specs.Calls.{noticeBytes, recordRows, callRows, premiseState}
-use Rattle.book.specs.Demand3.{meetsRow6}
+use Rattle.book.specs.Calls.{noticeBytes, recordRows, callRows, premiseState, meetsRow6}
 
 -- ---- which answers refuse
 abbrev pub Refuses : Answer → Type 0

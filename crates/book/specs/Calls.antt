@@ -2,7 +2,7 @@
 -- record does what the one-premise rules say.
 use Prim.Native.Nat.{ℕ}
 use mathlib.Core.List.{List, [], _∷_, _++_, map}
-use mathlib.Core.Bool.{true, false, cond, not, _&&_}
+use mathlib.Core.Bool.{Bool, true, false, cond, not, _&&_}
 use lib.Dec.{eqb, ltb}
 use lib.ListN.{length}
 use Rattle.records.specs.declared.Record.{Record}
@@ -14,7 +14,7 @@ use Rattle.premise.specs.declared.File.{File}
 use Rattle.premise.specs.declared.Answer.{Answer}
 use Rattle.premise.specs.declared.Answer.the-variants.{Accepted, ShortBuffer, NotWellKept, MalformedRecord, BookFull}
 use Rattle.premise.specs.Steps.{is}
-use Rattle.premise.specs.Refusals.{Row, row, firstRow, number, ordersOf, premiseRows, orderRows}
+use Rattle.premise.specs.Refusals.{Row, row, firstRow, number, isHeld, ordersOf, premiseRows, orderRows}
 use Rattle.premise.specs.OnePremise.{State, marked, step}
 use Rattle.book.specs.declared.Book.{Book}
 use Rattle.book.specs.Book.{mostFiles, filesOf, bookOf, bookKept, fileFor, withFile}
@@ -39,6 +39,11 @@ callRows calendar b bytes lent =
     row ShortBuffer (ltb (length lent) noticeBytes)
     ∷ row NotWellKept (not (bookKept b))
     ∷ recordRows calendar b (reading bytes)
+
+-- A well-formed create of a premise that is not held, while 64 files are held, meets row 6. `AnsweredFull` (Laws.antt) ties it to the table.
+abbrev pub meetsRow6 : Book → Reading → Bool
+meetsRow6 b Malformed = false
+meetsRow6 b (Says r) = is kindCreate r && not (isHeld (fileFor (r .premise) (filesOf b))) && eqb (length (filesOf b)) mostFiles
 
 -- ---- what a record does that meets no row
 -- what comes of a call: the answer, the notices, and the book afterwards

@@ -16,13 +16,13 @@ use Rattle.records.specs.Records.{kindNewOrder, kindReply, kindDayMark, wellFor
 use Rattle.premise.specs.declared.File.{File}
 use Rattle.premise.specs.declared.Answer.the-variants.{MalformedRecord, NoSuchPremise, NotNextDay}
 use Rattle.premise.specs.Steps.{is}
-use Rattle.premise.specs.Refusals.{needsPremise}
+use Rattle.premise.specs.Refusals.{number, needsPremise}
 use Rattle.premise.specs.OnePremise.{Given, step}
 use Rattle.premise.specs.WellKept.{FileKept}
 use Rattle.premise.specs.Laws.{KeptFor}
 use Rattle.book.specs.declared.Book.{Book}
 use Rattle.book.specs.Book.{mostFiles, filesOf, bookOf, freshBook, risesFrom, bookKept, fileFor}
-use Rattle.book.specs.Calls.{noticeBytes, markedFiles, markedNotices, onMark, onPremise, refusal, call}
+use Rattle.book.specs.Calls.{noticeBytes, meetsRow6, markedFiles, markedNotices, onMark, onPremise, refusal, call}
 
 -- ---- well kept
 -- the facts of a well-kept book
@@ -112,6 +112,12 @@ CallNotHeld =
     (calendar : List ℕ) (b : Book) (bytes lent : List ℕ) (r : Record)
     → bookKept b ≡ true → noticeBytes ≤ length lent → reading bytes ≡ Says r → needsPremise r ≡ true → fileFor (r .premise) (filesOf b) ≡ none
     → call calendar b bytes lent ≡ refusal NoSuchPremise b
+
+-- A call is answered 6 exactly where its record meets row 6.
+abbrev pub AnsweredFull : Type 0
+AnsweredFull =
+    (calendar : List ℕ) (b : Book) (bytes lent : List ℕ)
+    → bookKept b ≡ true → noticeBytes ≤ length lent → (number (call calendar b bytes lent .answer) ≡ 6) ↔ (meetsRow6 b (reading bytes) ≡ true)
 
 -- a day mark marks every file on the day after T, and gets 15 on any other
 abbrev pub CallOnMark : Type 0

@@ -20,7 +20,7 @@ use Rattle.premise.specs.Laws.{Held, KeptFor}
 use Rattle.premise.specs.Promises.{TidyOrNone, Answered}
 use Rattle.book.specs.declared.Book.{Book}
 use Rattle.book.specs.Book.{mostFiles, filesOf, bookOf, fileFor, withFile}
-use Rattle.book.specs.Demand3.{meetsRow6}
+use Rattle.book.specs.Calls.{meetsRow6}
 use Rattle.book.proofs.Keeps.{found-kept}
 use Rattle.book.proofs.Files.{rises-rising}
 use Rattle.book.proofs.Kept.{count-is}

@@ -24,8 +24,7 @@ use Rattle.premise.proofs.Answers.{only-create-makes}
 use Rattle.book.specs.declared.Book.{Book}
 use Rattle.book.specs.declared.Reply.{Reply}
 use Rattle.book.specs.Book.{mostFiles, filesOf, bookOf, fileFor, withFile}
-use Rattle.book.specs.Calls.{premiseState, refusal}
-use Rattle.book.specs.Demand3.{meetsRow6}
+use Rattle.book.specs.Calls.{premiseState, refusal, meetsRow6}
 use Rattle.book.proofs.Kept.{count-is}
 use Rattle.book_files.specs.Places.{before, TidyBook}
 use Rattle.book_files.proofs.Tidy.{tidy-kept}

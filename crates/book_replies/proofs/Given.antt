@@ -19,8 +19,7 @@ use Rattle.premise.specs.Laws.{Held, KeptFor}
 use Rattle.premise.specs.Promises.{Room, asStruct, Answered}
 use Rattle.book.specs.declared.Book.{Book}
 use Rattle.book.specs.Book.{filesOf, bookOf, fileFor, withFile}
-use Rattle.book.specs.Calls.{premiseState, refusal}
-use Rattle.book.specs.Demand3.{meetsRow6}
+use Rattle.book.specs.Calls.{premiseState, refusal, meetsRow6}
 use Rattle.book.proofs.Keeps.{step-kept-file}
 use Rattle.book.proofs.Few.{step-all-few}
 use Rattle.book_replies.specs.Parts.{Gives, inBook, onOther, Ready}

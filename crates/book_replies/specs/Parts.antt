@@ -15,9 +15,8 @@ use Rattle.premise.specs.Promises.{Writes}
 use Rattle.book.specs.declared.Book.{Book}
 use Rattle.book.specs.declared.Reply.{Reply}
 use Rattle.book.specs.Book.{filesOf, bookOf, withFile}
-use Rattle.book.specs.Calls.{noticeBytes, Result, onMark, premiseState, refusal}
+use Rattle.book.specs.Calls.{noticeBytes, Result, onMark, premiseState, refusal, meetsRow6}
 use Rattle.book.specs.Laws.{BookKept}
-use Rattle.book.specs.Demand3.{meetsRow6}
 
 -- everything that comes of a part, by equation
 pub record Gives (result : Result) (p : Reply) (before after : List ℕ) : Type 0 where

@@ -15,7 +15,7 @@ use Rattle.premise.specs.OnePremise.{State, Given, startState, step, runs, endS
 use Rattle.book.specs.declared.Book.{Book}
 use Rattle.book.specs.Book.{filesOf, bookOf, freshBook, fileFor}
 use Rattle.book.specs.Calls.{premiseState, Result, call}
-use Rattle.book.specs.Demand3.{Made, Played, lastBook, Allowed, AllAllowed, Premise, concerns, ownBytes, said, records, answers, withPremise, noticesFor, ruledAnswers, ruledNotices, AsRuled, EachPremiseAlone, SameFor, ShuffleProof}
+use Rattle.book.specs.Demand3.{Made, Played, lastBook, Allowed, AllAllowed, Premise, concerns, ownBytes, said, records, answers, withPremise, noticesFor, ruledAnswers, ruledNotices, AsRuled, EachPremiseAlone, SameFor, ShuffleProof, Demand3}
 use Rattle.book.specs.Promise.{Promised}
 use Rattle.book.proofs.Files.{rises-rising}
 use Rattle.book.proofs.SameFiles.{same-files}
@@ -174,3 +174,6 @@ shuffle-proof calendar start ms ns p a q c agree =
     day =
         let i : Premise 1 = record { above = omega arith; below = omega arith } in
         one 1 i .today ∙ ap (λ l. endState calendar (startState start) (records l) .today) (agree 1 i) ∙ sym (other 1 i .today)
+
+pub demand-3 : Demand3
+demand-3 = record { alone = each-premise-alone; shuffled = shuffle-proof }

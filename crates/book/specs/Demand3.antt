@@ -1,5 +1,5 @@
 -- Demand 3: one statement about a list of record calls as a whole, about what calls returned, tied together by the record call's own
--- promise; proofs/Demand3.antt proves both types below.
+-- promise; proofs/Demand3.antt proves it (`demand-3`).
 use Prim.Native.Nat.{ℕ, _≤_, _<_}
 use mathlib.Core.Path.{_≡_}
 use mathlib.Core.List.{List, [], _∷_, _++_, map}
@@ -130,3 +130,8 @@ ShuffleProof =
     → Played calendar (freshBook start) ns → AllAllowed (freshBook start) ns
     → ((premise : ℕ) → Premise premise → ownBytes premise ms ≡ ownBytes premise ns)
     → SameBooks start ms ns
+
+-- Demand 3, as one statement.
+pub record Demand3 : Type 0 where
+  pub alone : EachPremiseAlone
+  pub shuffled : ShuffleProof

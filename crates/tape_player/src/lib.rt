@@ -77,7 +77,7 @@ pub fn play_on(
                 }
             }
             Look::Other => {
-                let reply = book_calls::kept_call(calendar, b, bytes, notices);
+                let reply = book_records::on_bytes(calendar, b, bytes, notices);
                 answer = reply.answer;
                 sent = reply.sent;
                 b = reply.book;

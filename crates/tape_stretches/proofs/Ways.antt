@@ -72,6 +72,10 @@ module _ {b : Book} {numbers buffer : List ℕ} (t : Standing b numbers buffer) 
   pub look-asks : (b .today ≤ lastDay) × (b .count ≤ length numbers)
   look-asks = (kept .today, omega (arith, each-place, kept .few))
 
+  -- what a record asks that hands the book over
+  pub call-asks : BookKept b × (noticeBytes ≤ length buffer)
+  call-asks = (kept, t .room)
+
   -- ---- by what its look-up found
   module _ (bytes : List ℕ) {look : Look} (e : look ≡ lookUp bytes (b .today) numbers (b .count)) where
     known : (l : Look) → look ≡ l → Known bytes b past l

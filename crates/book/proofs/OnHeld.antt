@@ -24,31 +24,10 @@ use Rattle.book.specs.declared.Book.{Book}
 use Rattle.book.specs.Book.{mostFiles, filesOf, bookOf, bookKept, fileFor, putIn, withFile}
 use Rattle.book.specs.Calls.{noticeBytes, premiseState, Result, call, meetsRow6}
 use Rattle.book.specs.Laws.{BookKept, OnHeld, givenAt, withFileAt, numbersOf, CallOnHeld}
-use Rattle.book.proofs.Files.{Rising, rises-rising, found-head, found-tail, put-over, put-after}
+use Rattle.book.proofs.Files.{Rising, rises-rising, found-at, put-at}
 use Rattle.book.proofs.Kept.{count-is, book-kept-means}
 use Rattle.book.proofs.Keeps.{step-kept-file, call-keeps}
 use Rattle.book.proofs.Acts.{asMark, asOne, acted, call-acts}
-
--- ---- files in rising premise numbers: the one at a place is the one that its number finds, and one with its number is put in there
-module _ (d : File) where
-  rising-at : (n : ℕ) (fs : List File) → Rising n fs → (i : ℕ) → i < length fs → n < getD fs i d .premise
-  rising-at n [] r i h = absurd (omega arith)
-  rising-at n (f ∷ fs) r zero h = r .0
-  rising-at n (f ∷ fs) r (suc i) h = omega (arith, r .0, rising-at (f .premise) fs (r .1) i (omega arith))
-
-  found-at : (n : ℕ) (fs : List File) → Rising n fs → (i : ℕ) → i < length fs → fileFor (getD fs i d .premise) fs ≡ some (getD fs i d)
-  found-at n [] r i h = absurd (omega arith)
-  found-at n (f ∷ fs) r zero h = found-head (f .premise) f fs refl
-  found-at n (f ∷ fs) r (suc i) h =
-      let below = rising-at (f .premise) fs (r .1) i (omega arith) in
-      found-tail (getD fs i d .premise) f fs (λ e. omega (arith, e, below)) ∙ found-at (f .premise) fs (r .1) i (omega arith)
-
-  put-at : (g : File) (n : ℕ) (fs : List File) → Rising n fs → (i : ℕ) → i < length fs → getD fs i d .premise ≡ g .premise → putIn g fs ≡ set fs i g
-  put-at g n [] r i h e = absurd (omega arith)
-  put-at g n (f ∷ fs) r zero h e = put-over g f fs (sym e)
-  put-at g n (f ∷ fs) r (suc i) h e =
-      let below = rising-at (f .premise) fs (r .1) i (omega arith) in
-      put-after g f fs (omega (arith, e, below)) ∙ ap (λ (l : List File). f ∷ l) (put-at g (f .premise) fs (r .1) i (omega arith) e)
 
 -- a part that the new element has in common with the old one
 pub map-set-same : {X Y : Type 0} (part : X → Y) (d : X) (l : List X) (i : ℕ) (x : X) → part x ≡ part (getD l i d) → map part (set l i x) ≡ map part l
@@ -88,7 +67,7 @@ module _ (calendar : List ℕ) (b : Book) (bytes lent : List ℕ) (r : Record) (
   own = ap (λ (f : File). f .premise) read-there ∙ h .own
 
   found : fileFor (r .premise) (filesOf b) ≡ some (getD (b .files) at past)
-  found = ap (λ (n : ℕ). fileFor n (filesOf b)) (sym own) ∙ found-at past 0 (filesOf b) rising at inside ∙ ap some read-there
+  found = found-at past (r .premise) 0 (filesOf b) rising at inside own ∙ ap some read-there
 
   given : step calendar (premiseState b (r .premise)) r ≡ givenAt calendar b at past r
   given = ap (λ (x : Option File). step calendar (record { today = b .today; file = x }) r) found

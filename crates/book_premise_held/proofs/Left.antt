@@ -22,12 +22,11 @@ use Rattle.book.specs.declared.Book.{Book}
 use Rattle.book.specs.Book.{mostFiles, filesOf, bookOf, fileFor, withFile}
 use Rattle.book.specs.Calls.{meetsRow6}
 use Rattle.book.proofs.Keeps.{found-kept}
-use Rattle.book.proofs.Files.{rises-rising}
+use Rattle.book.proofs.Files.{Rising, rises-rising, put-at}
 use Rattle.book.proofs.Kept.{count-is}
 use Rattle.book_files.specs.Places.{before, TidyBook}
 use Rattle.book_files.proofs.Tidy.{tidy-kept}
 use Rattle.book_files.proofs.Before.{Here, found-here}
-use Rattle.book_files.proofs.PutIn.{put-here}
 use Rattle.book_files.proofs.TakenOut.{taken-here}
 use Rattle.book_replies.specs.Parts.{Gives, onOther, Ready}
 use Rattle.book_replies.proofs.Given.{given, gives, left, number-left, none-left}
@@ -36,8 +35,11 @@ module _ (calendar : List ℕ) (b : Book) (r : Record) (buffer : List ℕ) (read
   pub held-tidy : TidyOrNone (record { held = true; file = f })
   held-tidy = record { form = refl; tidy = λ _. (subst (Held (KeptFor (r .premise))) found (found-kept b (ready .kept) (r .premise))) .kept .tidy }
 
+  rising : Rising 0 (filesOf b)
+  rising = rises-rising 0 (filesOf b) (ready .kept .rising)
+
   held-here : Here blankFile (r .premise) (filesOf b)
-  held-here = found-here blankFile (r .premise) 0 (filesOf b) (rises-rising 0 (filesOf b) (ready .kept .rising)) f found
+  held-here = found-here blankFile (r .premise) 0 (filesOf b) rising f found
 
   held-place : at < b .count
   held-place = omega (arith, place, count-is b (ready .kept), held-here .0)
@@ -56,12 +58,10 @@ module _ (calendar : List ℕ) (b : Book) (r : Record) (buffer : List ℕ) (read
   held-replaced p after c a h e =
       let g : File = p .after .file in
       let n = number-left calendar b r buffer ready (some f) found p after a h in
-      let where-it-is : before (g .premise) (filesOf b) ≡ before (r .premise) (filesOf b) = ap (λ (m : ℕ). before m (filesOf b)) n in
-      let here : getD (filesOf b) (before (g .premise) (filesOf b)) blankFile .premise ≡ g .premise = ap (λ (i : ℕ). getD (filesOf b) i blankFile .premise) where-it-is ∙ held-here .1 ∙ sym n in
+      let own : getD (filesOf b) at blankFile .premise ≡ g .premise = ap (λ (i : ℕ). getD (filesOf b) i blankFile .premise) place ∙ held-here .1 ∙ sym n in
       gives calendar b r buffer ready (some f) found not-new p after c a
       (e
-      ∙ ap (λ (i : ℕ). bookOf (b .today) (set (filesOf b) i g)) (place ∙ sym where-it-is)
-      ∙ ap (bookOf (b .today)) (sym (put-here blankFile g (filesOf b) (omega (arith, where-it-is, held-here .0)) here))
+      ∙ ap (bookOf (b .today)) (sym (put-at blankFile g 0 (filesOf b) rising at (omega (arith, place, held-here .0)) own))
       ∙ ap (λ (x : Option File). bookOf (b .today) (withFile (r .premise) x (filesOf b))) (sym (left calendar b r buffer ready (some f) found p after a h)))
 
   pub held-removed : (p : Replied) (after : List ℕ) (c : Book) → Answered (given calendar b r (some f)) 0 p buffer after → p .after .held ≡ false

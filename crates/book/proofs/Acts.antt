@@ -79,7 +79,7 @@ module _ (calendar : List ℕ) (b : Book) where
 
     -- a refusal leaves the file where it is
     put-back : is kindDayMark r ≡ false → bookOf (b .today) (withFile (r .premise) (fileFor (r .premise) (filesOf b)) (filesOf b)) ≡ b
-    put-back t = ap (bookOf (b .today)) (with-same (r .premise) (filesOf b) (has-premise r w t) (rises-rising 0 (filesOf b) (k .rising))) ∙ sym (k .whole)
+    put-back t = ap (bookOf (b .today)) (with-same (r .premise) (filesOf b) (has-premise r w t) (rises-rising 0 (filesOf b) (k .rising))) ∙ sym (k .tidy .whole)
 
     decided-one : is kindDayMark r ≡ false → decided (step calendar (premiseState b (r .premise)) r .answer) (Says r) ≡ asOne calendar b r
     decided-one t = go (eqb (number (step calendar (premiseState b (r .premise)) r .answer)) 0) refl

@@ -71,4 +71,4 @@ mark-keeps-numbers calendar b day k =
     let many = length-map fs (λ (f : File). marked calendar day f .file) in
     numbers-by day (markedFiles calendar day fs)
     ∙ (λ i. marked-as-before calendar day fs (k .files) i ++ map numberOf (replicate (mostFiles - many i) blankFile))
-    ∙ sym (ap numbersOf (k .whole) ∙ numbers-by (b .today) fs)
+    ∙ sym (ap numbersOf (k .tidy .whole) ∙ numbers-by (b .today) fs)

@@ -144,7 +144,7 @@ same-book : (b c : Book) → OnWay b → OnWay c → b .today ≡ c .today → (
 same-book b c k l day same =
     let files : filesOf b ≡ filesOf c =
     same-files Premise 0 0 (filesOf b) (filesOf c) (rises-rising 0 (filesOf b) (k .kept .rising)) (rises-rising 0 (filesOf c) (l .kept .rising)) (k .ranged) (l .ranged) same in
-    k .kept .whole ∙ ap₂ bookOf day files ∙ sym (l .kept .whole)
+    k .kept .tidy .whole ∙ ap₂ bookOf day files ∙ sym (l .kept .tidy .whole)
 
 pub shuffle-proof : ShuffleProof
 shuffle-proof calendar start ms ns p a q c agree =

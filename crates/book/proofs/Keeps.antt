@@ -61,7 +61,7 @@ module _ (b : Book) (k : BookKept b) where
       go (some f) h = record { number = h .0; kept = h .1 }
 
   few : length (filesOf b) ≤ mostFiles
-  few = omega (arith, k .few, count-is b k)
+  few = omega (arith, k .tidy .few, count-is b (k .tidy))
 
   module _ (calendar : List ℕ) (r : Record) where
     -- ---- a day mark

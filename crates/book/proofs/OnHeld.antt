@@ -1,21 +1,20 @@
 -- A record of kinds 3 to 9 on a premise whose file stands at a place of a well-kept book: the call is the one-premise rules' step on that
 -- file, and stores the file that is left at that place. Assumes nothing.
-use Prim.Native.Nat.{ℕ, zero, suc, _-_, _≤_, _<_}
+use Prim.Native.Nat.{ℕ, zero, suc, _≤_, _<_}
 use mathlib.Core.Path.{_≡_, refl, sym, ap, subst, _∙_}
-use mathlib.Core.List.{List, [], _∷_, _++_, map}
+use mathlib.Core.List.{List, [], _∷_, map}
 use mathlib.Core.Option.{Option, some}
 use mathlib.Core.Bool.{Bool, false, cond, not, _&&_, and-false}
 use native.Mathlib.Omega.{arith}
 use lib.Dec.{eqb}
-use lib.ListN.{length, getD, set, replicate, length-set}
-use lib.Seq.{getD-take, set-append-left}
+use lib.ListN.{length, getD, set}
+use lib.Seq.{getD-take}
 use borrow.Author.Tests.{ne-eqb}
 use Rattle.records.specs.declared.Record.{Record}
 use Rattle.records.specs.declared.Reading.the-variants.{Says}
 use Rattle.records.specs.Records.{reading, kindCreate, kindDayMark}
 use Rattle.records.proofs.Readings.{says}
 use Rattle.premise.specs.declared.File.{File}
-use Rattle.premise.specs.Orders.{blankFile}
 use Rattle.premise.specs.Steps.{is}
 use Rattle.premise.specs.Refusals.{isHeld}
 use Rattle.premise.specs.OnePremise.{Given, step}
@@ -25,7 +24,7 @@ use Rattle.book.specs.Book.{mostFiles, filesOf, bookOf, bookKept, fileFo
 use Rattle.book.specs.Calls.{noticeBytes, premiseState, Result, call, meetsRow6}
 use Rattle.book.specs.Laws.{BookKept, OnHeld, givenAt, withFileAt, numbersOf, CallOnHeld}
 use Rattle.book.proofs.Files.{Rising, rises-rising, found-at, put-at}
-use Rattle.book.proofs.Kept.{count-is, book-kept-means}
+use Rattle.book.proofs.Kept.{count-is, stored, book-kept-means}
 use Rattle.book.proofs.Keeps.{step-kept-file, call-keeps}
 use Rattle.book.proofs.Acts.{asMark, asOne, acted, call-acts}
 
@@ -34,19 +33,6 @@ pub map-set-same : {X Y : Type 0} (part : X → Y) (d : X) (l : List X) (i : ℕ
 map-set-same part d [] i x e = refl
 map-set-same part d (y ∷ ys) zero x e = ap (λ (z : _). z ∷ map part ys) e
 map-set-same part d (y ∷ ys) (suc i) x e = ap (λ (l : List _). part y ∷ l) (map-set-same part d ys i x e)
-
--- ---- a book with another file at a place
-stored : (b : Book) → BookKept b → (at : ℕ) (g : File) → at < b .count → bookOf (b .today) (set (filesOf b) at g) ≡ withFileAt b at g
-unfolding bookOf
-stored b k at g h =
-    let rest : ℕ → List File = (λ n. replicate (mostFiles - n) blankFile) in
-    let same = length-set (filesOf b) at g in
-    let files : b .files ≡ filesOf b ++ rest (length (filesOf b)) = ap (λ (x : Book). x .files) (k .whole) in
-    let e : set (filesOf b) at g ++ rest (length (set (filesOf b) at g)) ≡ set (b .files) at g =
-    ap (λ (n : ℕ). set (filesOf b) at g ++ rest n) same
-    ∙ sym (set-append-left (filesOf b) (rest (length (filesOf b))) at g (omega (arith, h, count-is b k)))
-    ∙ ap (λ (l : List File). set l at g) (sym files) in
-    λ i. record { today = b .today; count = (same ∙ count-is b k) i; files = e i }
 
 module _ (calendar : List ℕ) (b : Book) (bytes lent : List ℕ) (r : Record) (at : ℕ) (past g : File) (k : BookKept b) (room : noticeBytes ≤ length lent)
     (e : reading bytes ≡ Says r) (h : OnHeld b at past r) (left : givenAt calendar b at past r .state .file ≡ some g) where
@@ -57,7 +43,7 @@ module _ (calendar : List ℕ) (b : Book) (bytes lent : List ℕ) (r : Record) (
   rising = rises-rising 0 (filesOf b) (k .rising)
 
   inside : at < length (filesOf b)
-  inside = omega (arith, h .within, count-is b k)
+  inside = omega (arith, h .within, count-is b (k .tidy))
 
   -- the file at the place is the premise's
   read-there : getD (filesOf b) at past ≡ getD (b .files) at past
@@ -83,7 +69,7 @@ module _ (calendar : List ℕ) (b : Book) (bytes lent : List ℕ) (r : Record) (
 
   -- it is put in over the old one
   put-there : bookOf (b .today) (putIn g (filesOf b)) ≡ withFileAt b at g
-  put-there = ap (bookOf (b .today)) (put-at past g 0 (filesOf b) rising at inside (own ∙ sym (kept-file .number))) ∙ stored b k at g (h .within)
+  put-there = ap (bookOf (b .today)) (put-at past g 0 (filesOf b) rising at inside (own ∙ sym (kept-file .number))) ∙ stored b (k .tidy) at g (h .within)
 
   abbrev Expected : Result
   Expected = record { answer = givenAt calendar b at past r .answer; notices = givenAt calendar b at past r .notices; book = withFileAt b at g }

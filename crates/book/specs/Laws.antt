@@ -25,13 +25,17 @@ use Rattle.book.specs.Book.{mostFiles, filesOf, bookOf, freshBook, rises
 use Rattle.book.specs.Calls.{noticeBytes, meetsRow6, markedFiles, markedNotices, onMark, onPremise, refusal, call}
 
 -- ---- well kept
+-- at most 64 files, and the places after them unused: what the functions on a book's places ask of it
+pub record TidyBook (b : Book) : Type 0 where
+  pub few : b .count ≤ mostFiles
+  pub whole : b ≡ bookOf (b .today) (filesOf b)
+
 -- the facts of a well-kept book
 pub record BookKept (b : Book) : Type 0 where
+  pub tidy : TidyBook b
   pub today : b .today ≤ lastDay
-  pub few : b .count ≤ mostFiles
   pub files : Each FileKept (filesOf b)
   pub rising : risesFrom 0 (filesOf b) ≡ true
-  pub whole : b ≡ bookOf (b .today) (filesOf b)
 
 -- the test and the facts behind it say the same
 abbrev pub BookKeptMeans : Type 0

@@ -25,8 +25,9 @@ use Rattle.premise_passes.proofs.Then.{done-nothing}
 use Rattle.book.specs.declared.Book.{Book}
 use Rattle.book.specs.Book.{mostFiles, filesOf, bookOf}
 use Rattle.book.specs.Calls.{markedFiles, markedNotices}
-use Rattle.book_files.specs.Places.{TidyBook}
-use Rattle.book_files.proofs.Tidy.{past, spare, withPlaces, at-file, count-files, length-files, unused, book-is}
+use Rattle.book.specs.Laws.{TidyBook}
+use Rattle.book.proofs.Kept.{count-is}
+use Rattle.book_files.proofs.Tidy.{past, spare, withPlaces, at-file, length-files, unused, book-is}
 
 module _ (calendar : List ℕ) (day : ℕ) where
   -- a mark on a list that is put together
@@ -65,7 +66,7 @@ module _ (calendar : List ℕ) (day : ℕ) (b : Book) (tidy : TidyBook b) where
     file = getD (filesOf b) i past
 
     inside : i < length (filesOf b)
-    inside = omega (arith, count-files b tidy)
+    inside = omega (arith, count-is b tidy)
 
     done-length : length (markedFiles calendar day (take i (filesOf b))) ≡ i
     done-length = length-marked calendar day (take i (filesOf b)) ∙ omega (arith, length-take i (filesOf b), inside)
@@ -154,11 +155,11 @@ module _ (calendar : List ℕ) (day : ℕ) (b : Book) (tidy : TidyBook b) where
   -- after the last turn the mark is done
   module _ (buffer : List ℕ) (i sent : ℕ) (c : Book) (after : List ℕ) (s : Sofar calendar day (b .count) (b .files) buffer i sent c after) (e : b .count ≤ i) where
     all-files : take i (filesOf b) ≡ filesOf b
-    all-files = take-all i (filesOf b) (omega (arith, count-files b tidy))
+    all-files = take-all i (filesOf b) (omega (arith, count-is b tidy))
 
     pub sofar-book : c ≡ bookOf day (markedFiles calendar day (filesOf b))
     sofar-book =
-        let n : b .count ≡ length (markedFiles calendar day (filesOf b)) = sym (length-marked calendar day (filesOf b) ∙ count-files b tidy) in
+        let n : b .count ≡ length (markedFiles calendar day (filesOf b)) = sym (length-marked calendar day (filesOf b) ∙ count-is b tidy) in
         let m : i ≡ b .count = omega (arith, s .within) in
         s .here
         ∙ book-is day (b .count) (markedFiles calendar day (take i (filesOf b)) ++ drop i (b .files)) (markedFiles calendar day (filesOf b)) n

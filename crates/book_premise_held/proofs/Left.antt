@@ -24,8 +24,8 @@ use Rattle.book.specs.Calls.{meetsRow6}
 use Rattle.book.proofs.Keeps.{found-kept}
 use Rattle.book.proofs.Files.{Rising, rises-rising, put-at}
 use Rattle.book.proofs.Kept.{count-is}
-use Rattle.book_files.specs.Places.{before, TidyBook}
-use Rattle.book_files.proofs.Tidy.{tidy-kept}
+use Rattle.book.specs.Laws.{TidyBook}
+use Rattle.book_files.specs.Places.{before}
 use Rattle.book_files.proofs.Before.{Here, found-here}
 use Rattle.book_files.proofs.TakenOut.{taken-here}
 use Rattle.book_replies.specs.Parts.{Gives, onOther, Ready}
@@ -42,10 +42,10 @@ module _ (calendar : List ℕ) (b : Book) (r : Record) (buffer : List ℕ) (read
   held-here = found-here blankFile (r .premise) 0 (filesOf b) rising f found
 
   held-place : at < b .count
-  held-place = omega (arith, place, count-is b (ready .kept), held-here .0)
+  held-place = omega (arith, place, count-is b (ready .kept .tidy), held-here .0)
 
   pub held-asks : TidyBook b × (at < b .count)
-  held-asks = (tidy-kept b (ready .kept), held-place)
+  held-asks = (ready .kept .tidy, held-place)
 
   not-new : meetsRow6 b (Says r) ≡ false
   not-new =

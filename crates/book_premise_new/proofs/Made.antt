@@ -26,8 +26,8 @@ use Rattle.book.specs.declared.Reply.{Reply}
 use Rattle.book.specs.Book.{mostFiles, filesOf, bookOf, fileFor, withFile}
 use Rattle.book.specs.Calls.{premiseState, refusal, meetsRow6}
 use Rattle.book.proofs.Kept.{count-is}
-use Rattle.book_files.specs.Places.{before, TidyBook}
-use Rattle.book_files.proofs.Tidy.{tidy-kept}
+use Rattle.book.specs.Laws.{TidyBook}
+use Rattle.book_files.specs.Places.{before}
 use Rattle.book_files.proofs.Before.{before-within}
 use Rattle.book_files.proofs.PutIn.{put-elsewhere}
 use Rattle.book_files.proofs.TakenOut.{taken-elsewhere}
@@ -43,7 +43,7 @@ none-tidy file e =
 module _ (calendar : List ℕ) (b : Book) (r : Record) (buffer : List ℕ) (ready : Ready b r buffer) (at : ℕ) (place : at ≡ before (r .premise) (filesOf b)) (found : fileFor (r .premise) (filesOf b) ≡ none) where
   -- row 6, by the kind and the count
   full-is : meetsRow6 b (Says r) ≡ (is kindCreate r && eqb (b .count) mostFiles)
-  full-is = ap₂ (λ (x : Option File) (n : ℕ). is kindCreate r && not (isHeld x) && eqb n mostFiles) found (count-is b (ready .kept)) ∙ go (is kindCreate r)
+  full-is = ap₂ (λ (x : Option File) (n : ℕ). is kindCreate r && not (isHeld x) && eqb n mostFiles) found (count-is b (ready .kept .tidy)) ∙ go (is kindCreate r)
     where
       go : (a : Bool) → (a && true && eqb (b .count) mostFiles) ≡ (a && eqb (b .count) mostFiles)
       go true = refl
@@ -57,10 +57,10 @@ module _ (calendar : List ℕ) (b : Book) (r : Record) (buffer : List ℕ) (read
   module _ (places : (is kindCreate r && eqb (b .count) mostFiles) ≡ false) where
     -- a file that is left was made by a create, so there is a place for it
     pub new-asks : (p : Replied) (after : List ℕ) → Answered (given calendar b r none) 0 p buffer after → p .after .held ≡ true → TidyBook b × (at ≤ b .count) × (b .count < mostFiles)
-    new-asks p after a h = (tidy-kept b (ready .kept), omega (arith, place, count-is b (ready .kept), before-within (r .premise) (filesOf b)), go (is kindCreate r) refl)
+    new-asks p after a h = (ready .kept .tidy, omega (arith, place, count-is b (ready .kept .tidy), before-within (r .premise) (filesOf b)), go (is kindCreate r) refl)
       where
         go : (creates : Bool) → is kindCreate r ≡ creates → b .count < mostFiles
-        go true c = omega (arith, ready .kept .few, eqb-false (b .count) mostFiles (and-other (is kindCreate r) (eqb (b .count) mostFiles) places c))
+        go true c = omega (arith, ready .kept .tidy .few, eqb-false (b .count) mostFiles (and-other (is kindCreate r) (eqb (b .count) mostFiles) places c))
         go false c =
             let m = only-create-makes calendar (b .today) r c in
             let s = left calendar b r buffer ready none found p after a h in
@@ -82,6 +82,6 @@ module _ (calendar : List ℕ) (b : Book) (r : Record) (buffer : List ℕ) (read
         → Gives (onOther calendar b r) (record { answer = p .answer; sent = p .sent; book = b }) buffer after
     new-left-out p after a h =
         gives calendar b r buffer ready none found (full-is ∙ places) p after b a
-        (tidy-kept b (ready .kept) .whole
+        (ready .kept .tidy .whole
         ∙ ap (bookOf (b .today)) (sym (taken-elsewhere blankFile (r .premise) (filesOf b) found))
         ∙ ap (λ (x : Option File). bookOf (b .today) (withFile (r .premise) x (filesOf b))) (sym (none-left calendar b r buffer ready none found p after a h)))

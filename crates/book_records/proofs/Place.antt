@@ -20,7 +20,7 @@ module _ (b : Book) (k : BookKept b) (premise at : ℕ) (place : at ≡ before p
   rising = rises-rising 0 (filesOf b) (k .rising)
 
   pub past-last : b .count ≤ at → fileFor premise (filesOf b) ≡ none
-  past-last h = file-elsewhere blankFile premise 0 (filesOf b) rising (λ i e. omega (arith, i, place, h, count-is b k))
+  past-last h = file-elsewhere blankFile premise 0 (filesOf b) rising (λ i e. omega (arith, i, place, h, count-is b (k .tidy)))
 
   module _ (h : at < b .count) where
     file-there : getD (b .files) at past ≡ getD (filesOf b) (before premise (filesOf b)) past
@@ -32,4 +32,4 @@ module _ (b : Book) (k : BookKept b) (premise at : ℕ) (place : at ≡ before p
     pub it-is-there : getD (b .files) at past .premise ≡ premise → fileFor premise (filesOf b) ≡ some (getD (b .files) at past)
     it-is-there e =
         let there = at-file b at h in
-        found-at past premise 0 (filesOf b) rising at (omega (arith, h, count-is b k)) (ap (λ (f : File). f .premise) (sym there) ∙ e) ∙ ap some (sym there)
+        found-at past premise 0 (filesOf b) rising at (omega (arith, h, count-is b (k .tidy))) (ap (λ (f : File). f .premise) (sym there) ∙ e) ∙ ap some (sym there)

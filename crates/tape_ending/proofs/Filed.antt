@@ -38,8 +38,8 @@ unfolding ending
 filed-none p start b ready room =
     let k = book-kept-means (p .book) .0 (ready .kept) in
     record {
-      few = k .few;
-      held = omega (arith, count-is (p .book) k, length-take (p .book .count) (p .book .files));
+      few = k .tidy .few;
+      held = omega (arith, count-is (p .book) (k .tidy), length-take (p .book .count) (p .book .files));
       room = omega (arith, ending-most p ready);
       put = putting-none (ending p) start b;
     }

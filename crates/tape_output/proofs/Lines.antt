@@ -116,7 +116,7 @@ ending-most p ready =
       arith,
       length-append (fileLines (filesOf (p .book))) (totalLine (p .reader .accepted) (p .reader .refused)),
       file-lines-most (filesOf (p .book)) (k .files),
-      count-is (p .book) k,
-      k .few,
+      count-is (p .book) (k .tidy),
+      k .tidy .few,
       total-line (p .reader .accepted) (p .reader .refused) (omega (arith, ready .sound, ready .within)) (omega (arith, ready .sound, ready .within)),
     )

@@ -4,29 +4,28 @@ use Prim.Native.Nat.{ℕ, zero, suc, _≤_, _<_}
 use mathlib.Core.Path.{_≡_, refl, sym, ap, subst, _∙_}
 use mathlib.Core.List.{List, [], _∷_, map}
 use mathlib.Core.Option.{Option, some}
-use mathlib.Core.Bool.{Bool, false, cond, not, _&&_, and-false}
+use mathlib.Core.Bool.{Bool, false, cond}
 use native.Mathlib.Omega.{arith}
-use lib.Dec.{eqb}
 use lib.ListN.{length, getD, set}
 use lib.Seq.{getD-take}
 use borrow.Author.Tests.{ne-eqb}
 use Rattle.records.specs.declared.Record.{Record}
 use Rattle.records.specs.declared.Reading.the-variants.{Says}
-use Rattle.records.specs.Records.{reading, kindCreate, kindDayMark}
+use Rattle.records.specs.Records.{reading, kindDayMark}
 use Rattle.records.proofs.Readings.{says}
 use Rattle.premise.specs.declared.File.{File}
 use Rattle.premise.specs.Steps.{is}
-use Rattle.premise.specs.Refusals.{isHeld}
 use Rattle.premise.specs.OnePremise.{Given, step}
 use Rattle.premise.specs.Laws.{Held, KeptFor}
 use Rattle.book.specs.declared.Book.{Book}
-use Rattle.book.specs.Book.{mostFiles, filesOf, bookOf, bookKept, fileFor, putIn, withFile}
-use Rattle.book.specs.Calls.{noticeBytes, premiseState, Result, call, meetsRow6}
+use Rattle.book.specs.Book.{filesOf, bookOf, bookKept, fileFor, putIn, withFile}
+use Rattle.book.specs.Calls.{noticeBytes, premiseState, Result, call, meetsRow6, onDayMark, asOne, inBook}
 use Rattle.book.specs.Laws.{BookKept, OnHeld, givenAt, withFileAt, numbersOf, CallOnHeld}
 use Rattle.book.proofs.Files.{Rising, rises-rising, found-at, put-at}
 use Rattle.book.proofs.Kept.{count-is, stored, book-kept-means}
 use Rattle.book.proofs.Keeps.{step-kept-file, call-keeps}
-use Rattle.book.proofs.Acts.{asMark, asOne, acted, call-acts}
+use Rattle.book.proofs.Acts.{acted, call-acts}
+use Rattle.book.proofs.Rows.{not-new}
 
 -- a part that the new element has in common with the old one
 pub map-set-same : {X Y : Type 0} (part : X → Y) (d : X) (l : List X) (i : ℕ) (x : X) → part x ≡ part (getD l i d) → map part (set l i x) ≡ map part l
@@ -58,12 +57,6 @@ module _ (calendar : List ℕ) (b : Book) (bytes lent : List ℕ) (r : Record) (
   given : step calendar (premiseState b (r .premise)) r ≡ givenAt calendar b at past r
   given = ap (λ (x : Option File). step calendar (record { today = b .today; file = x }) r) found
 
-  -- so that the call does not meet row 6
-  not-new : meetsRow6 b (Says r) ≡ false
-  not-new =
-      ap (λ (x : Option File). is kindCreate r && not (isHeld x) && eqb (length (filesOf b)) mostFiles) found
-      ∙ ap (λ (a : Bool). a && eqb (length (filesOf b)) mostFiles) (and-false (is kindCreate r))
-
   kept-file : KeptFor (r .premise) g
   kept-file = subst (Held (KeptFor (r .premise))) (ap (λ (x : Given). x .state .file) given ∙ left) (step-kept-file b k calendar r (says bytes r e .formed))
 
@@ -76,9 +69,9 @@ module _ (calendar : List ℕ) (b : Book) (bytes lent : List ℕ) (r : Record) (
 
   result : call calendar b bytes lent ≡ Expected
   result =
-      call-acts calendar b bytes lent k room (ap (meetsRow6 b) e ∙ not-new) ∙ ap (acted calendar b) e
-      ∙ ap (λ (a : Bool). cond a (asMark calendar b r) (asOne calendar b r)) not-mark
-      ∙ ap {B = Result} (λ (x : Given). record { answer = x .answer; notices = x .notices; book = bookOf (b .today) (withFile (r .premise) (x .state .file) (filesOf b)) }) given
+      call-acts calendar b bytes lent k room (ap (meetsRow6 b) e ∙ not-new b r (getD (b .files) at past) found) ∙ ap (acted calendar b) e
+      ∙ ap (λ (a : Bool). cond a (onDayMark calendar b r) (asOne calendar b r)) not-mark
+      ∙ ap (inBook b (r .premise)) given
       ∙ ap {B = Result} (λ (c : Book). record { answer = givenAt calendar b at past r .answer; notices = givenAt calendar b at past r .notices; book = c })
       (ap (λ (x : Option File). bookOf (b .today) (withFile (r .premise) x (filesOf b))) left ∙ put-there)
 

@@ -1,6 +1,6 @@
 -- Document 01, "The book": the record call. The answer is the number of the first row of the table whose condition holds; accepted, a
 -- record does what the one-premise rules say.
-use Prim.Native.Nat.{ℕ}
+use Prim.Native.Nat.{ℕ, _+_}
 use mathlib.Core.List.{List, [], _∷_, _++_, map}
 use mathlib.Core.Bool.{Bool, true, false, cond, not, _&&_}
 use lib.Dec.{eqb, ltb}
@@ -12,10 +12,10 @@ use Rattle.records.specs.declared.Notice.{Notice}
 use Rattle.records.specs.Records.{reading, kindCreate, kindDayMark}
 use Rattle.premise.specs.declared.File.{File}
 use Rattle.premise.specs.declared.Answer.{Answer}
-use Rattle.premise.specs.declared.Answer.the-variants.{Accepted, ShortBuffer, NotWellKept, MalformedRecord, BookFull}
+use Rattle.premise.specs.declared.Answer.the-variants.{Accepted, ShortBuffer, NotWellKept, MalformedRecord, BookFull, NotNextDay}
 use Rattle.premise.specs.Steps.{is}
 use Rattle.premise.specs.Refusals.{Row, row, firstRow, number, isHeld, ordersOf, premiseRows, orderRows}
-use Rattle.premise.specs.OnePremise.{State, marked, step}
+use Rattle.premise.specs.OnePremise.{State, Given, marked, step}
 use Rattle.book.specs.declared.Book.{Book}
 use Rattle.book.specs.Book.{mostFiles, filesOf, bookOf, bookKept, fileFor, withFile}
 
@@ -60,12 +60,12 @@ abbrev pub markedNotices : List ℕ → ℕ → List File → List Notice
 markedNotices calendar day [] = []
 markedNotices calendar day (f ∷ fs) = marked calendar day f .notices ++ markedNotices calendar day fs
 
-abbrev pub onMark : List ℕ → Book → Record → Result
-onMark calendar b r =
+abbrev pub markedBook : List ℕ → Book → ℕ → Result
+markedBook calendar b day =
     record {
       answer = Accepted;
-      notices = markedNotices calendar (r .day) (filesOf b);
-      book = bookOf (r .day) (markedFiles calendar (r .day) (filesOf b));
+      notices = markedNotices calendar day (filesOf b);
+      book = bookOf day (markedFiles calendar day (filesOf b));
     }
 
 -- Any other record goes to its premise: the one-premise rules on T and that file or none.
@@ -82,7 +82,7 @@ onPremise calendar b r =
 
 abbrev pub onReading : List ℕ → Book → Reading → Result
 onReading calendar b Malformed = record { answer = MalformedRecord; notices = []; book = b }
-onReading calendar b (Says r) = cond (is kindDayMark r) (onMark calendar b r) (onPremise calendar b r)
+onReading calendar b (Says r) = cond (is kindDayMark r) (markedBook calendar b (r .day)) (onPremise calendar b r)
 
 -- ---- the call
 -- A refusal returns its number and zero notices; book and buffer stay.
@@ -94,3 +94,21 @@ call calendar b bytes lent =
     cond (eqb (number (firstRow (callRows calendar b bytes lent))) 0)
     (onReading calendar b (reading bytes))
     (refusal (firstRow (callRows calendar b bytes lent)) b)
+
+-- ---- what a call on a well-kept book comes to, by what its record is
+-- a day mark: row 15, then the mark
+abbrev pub onDayMark : List ℕ → Book → Record → Result
+onDayMark calendar b r = cond (eqb (r .day) (b .today + 1)) (markedBook calendar b (r .day)) (refusal NotNextDay b)
+
+-- what the one-premise rules give, in the book ..
+abbrev pub inBook : Book → ℕ → Given → Result
+inBook b premise given =
+    record {
+      answer = given .answer;
+      notices = given .notices;
+      book = bookOf (b .today) (withFile premise (given .state .file) (filesOf b));
+    }
+
+-- .. on T and the record's premise
+abbrev pub asOne : List ℕ → Book → Record → Result
+asOne calendar b r = inBook b (r .premise) (step calendar (premiseState b (r .premise)) r)

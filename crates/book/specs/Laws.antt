@@ -1,11 +1,10 @@
 -- What the layers above rely on about the book, as statements; proofs/ proves each.
-use Prim.Native.Nat.{ℕ, _+_, _*_, _≤_, _<_}
+use Prim.Native.Nat.{ℕ, _*_, _≤_, _<_}
 use mathlib.Core.Path.{_≡_}
 use mathlib.Core.Logic.{_↔_}
 use mathlib.Core.List.{List, map}
 use mathlib.Core.Option.{none, some}
-use mathlib.Core.Bool.{true, false, cond}
-use lib.Dec.{eqb}
+use mathlib.Core.Bool.{true, false}
 use lib.ListN.{length, getD, set}
 use Rattle.lists.specs.Search.{Each}
 use Rattle.days.specs.Days.{lastDay}
@@ -14,7 +13,7 @@ use Rattle.records.specs.declared.Reading.the-variants.{Malformed, Says}
 use Rattle.records.specs.Layout.{recordLength}
 use Rattle.records.specs.Records.{kindNewOrder, kindReply, kindDayMark, wellFormed, reading}
 use Rattle.premise.specs.declared.File.{File}
-use Rattle.premise.specs.declared.Answer.the-variants.{MalformedRecord, NoSuchPremise, NotNextDay}
+use Rattle.premise.specs.declared.Answer.the-variants.{MalformedRecord, NoSuchPremise}
 use Rattle.premise.specs.Steps.{is}
 use Rattle.premise.specs.Refusals.{number, needsPremise}
 use Rattle.premise.specs.OnePremise.{Given, step}
@@ -22,7 +21,7 @@ use Rattle.premise.specs.WellKept.{FileKept}
 use Rattle.premise.specs.Laws.{KeptFor}
 use Rattle.book.specs.declared.Book.{Book}
 use Rattle.book.specs.Book.{mostFiles, filesOf, bookOf, freshBook, risesFrom, bookKept, fileFor}
-use Rattle.book.specs.Calls.{noticeBytes, meetsRow6, markedFiles, markedNotices, onMark, onPremise, refusal, call}
+use Rattle.book.specs.Calls.{noticeBytes, meetsRow6, markedFiles, markedNotices, onPremise, refusal, call, onDayMark}
 
 -- ---- well kept
 -- at most 64 files, and the places after them unused: what the functions on a book's places ask of it
@@ -128,7 +127,7 @@ abbrev pub CallOnMark : Type 0
 CallOnMark =
     (calendar : List ℕ) (b : Book) (bytes lent : List ℕ) (r : Record)
     → bookKept b ≡ true → noticeBytes ≤ length lent → reading bytes ≡ Says r → is kindDayMark r ≡ true
-    → call calendar b bytes lent ≡ cond (eqb (r .day) (b .today + 1)) (onMark calendar b r) (refusal NotNextDay b)
+    → call calendar b bytes lent ≡ onDayMark calendar b r
 
 -- a day mark leaves every premise in its place
 abbrev pub MarkKeepsNumbers : Type 0

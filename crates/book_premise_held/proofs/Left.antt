@@ -3,28 +3,23 @@ use Prim.Native.Nat.{ℕ, _<_}
 use mathlib.Core.Path.{_≡_, refl, sym, ap, subst, _∙_}
 use mathlib.Core.List.{List}
 use mathlib.Core.Option.{Option, some}
-use mathlib.Core.Bool.{Bool, true, false, not, _&&_, and-false}
+use mathlib.Core.Bool.{true, false}
 use native.Mathlib.Omega.{arith}
-use lib.Dec.{eqb}
-use lib.ListN.{length, getD, set}
+use lib.ListN.{getD, set}
 use Rattle.lists.specs.Shift.{removed}
 use Rattle.records.specs.declared.Record.{Record}
-use Rattle.records.specs.declared.Reading.the-variants.{Says}
-use Rattle.records.specs.Records.{kindCreate}
 use Rattle.premise.specs.declared.File.{File}
 use Rattle.premise.specs.declared.Replied.{Replied}
 use Rattle.premise.specs.Orders.{blankFile}
-use Rattle.premise.specs.Steps.{is}
-use Rattle.premise.specs.Refusals.{isHeld}
 use Rattle.premise.specs.Laws.{Held, KeptFor}
 use Rattle.premise.specs.Promises.{TidyOrNone, Answered}
 use Rattle.book.specs.declared.Book.{Book}
-use Rattle.book.specs.Book.{mostFiles, filesOf, bookOf, fileFor, withFile}
-use Rattle.book.specs.Calls.{meetsRow6}
+use Rattle.book.specs.Book.{filesOf, bookOf, fileFor, withFile}
 use Rattle.book.proofs.Keeps.{found-kept}
 use Rattle.book.proofs.Files.{Rising, rises-rising, put-at}
 use Rattle.book.proofs.Kept.{count-is}
 use Rattle.book.specs.Laws.{TidyBook}
+use Rattle.book.proofs.Rows.{not-new}
 use Rattle.book_files.specs.Places.{before}
 use Rattle.book_files.proofs.Before.{Here, found-here}
 use Rattle.book_files.proofs.TakenOut.{taken-here}
@@ -47,11 +42,6 @@ module _ (calendar : List ℕ) (b : Book) (r : Record) (buffer : List ℕ) (read
   pub held-asks : TidyBook b × (at < b .count)
   held-asks = (ready .kept .tidy, held-place)
 
-  not-new : meetsRow6 b (Says r) ≡ false
-  not-new =
-      ap (λ (x : Option File). is kindCreate r && not (isHeld x) && eqb (length (filesOf b)) mostFiles) found
-      ∙ ap (λ (a : Bool). a && eqb (length (filesOf b)) mostFiles) (and-false (is kindCreate r))
-
   pub held-replaced : (p : Replied) (after : List ℕ) (c : Book) → Answered (given calendar b r (some f)) 0 p buffer after → p .after .held ≡ true
       → c ≡ bookOf (b .today) (set (filesOf b) at (p .after .file))
       → Gives (onOther calendar b r) (record { answer = p .answer; sent = p .sent; book = c }) buffer after
@@ -59,7 +49,7 @@ module _ (calendar : List ℕ) (b : Book) (r : Record) (buffer : List ℕ) (read
       let g : File = p .after .file in
       let n = number-left calendar b r buffer ready (some f) found p after a h in
       let own : getD (filesOf b) at blankFile .premise ≡ g .premise = ap (λ (i : ℕ). getD (filesOf b) i blankFile .premise) place ∙ held-here .1 ∙ sym n in
-      gives calendar b r buffer ready (some f) found not-new p after c a
+      gives calendar b r buffer ready (some f) found (not-new b r f found) p after c a
       (e
       ∙ ap (bookOf (b .today)) (sym (put-at blankFile g 0 (filesOf b) rising at (omega (arith, place, held-here .0)) own))
       ∙ ap (λ (x : Option File). bookOf (b .today) (withFile (r .premise) x (filesOf b))) (sym (left calendar b r buffer ready (some f) found p after a h)))
@@ -68,7 +58,7 @@ module _ (calendar : List ℕ) (b : Book) (r : Record) (buffer : List ℕ) (read
       → c ≡ bookOf (b .today) (removed at (filesOf b))
       → Gives (onOther calendar b r) (record { answer = p .answer; sent = p .sent; book = c }) buffer after
   held-removed p after c a h e =
-      gives calendar b r buffer ready (some f) found not-new p after c a
+      gives calendar b r buffer ready (some f) found (not-new b r f found) p after c a
       (e
       ∙ ap (λ (i : ℕ). bookOf (b .today) (removed i (filesOf b))) place
       ∙ ap (bookOf (b .today)) (sym (taken-here blankFile (r .premise) (filesOf b) (held-here .0) (held-here .1)))

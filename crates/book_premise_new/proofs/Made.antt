@@ -18,20 +18,19 @@ use Rattle.premise.specs.declared.Answer.the-variants.{BookFull}
 use Rattle.premise.specs.Orders.{blankFile}
 use Rattle.premise.specs.Steps.{is}
 use Rattle.premise.specs.Refusals.{isHeld}
-use Rattle.premise.specs.OnePremise.{step}
 use Rattle.premise.specs.Promises.{TidyOrNone, Answered}
 use Rattle.premise.proofs.Answers.{only-create-makes}
 use Rattle.book.specs.declared.Book.{Book}
 use Rattle.book.specs.declared.Reply.{Reply}
 use Rattle.book.specs.Book.{mostFiles, filesOf, bookOf, fileFor, withFile}
-use Rattle.book.specs.Calls.{premiseState, refusal, meetsRow6}
+use Rattle.book.specs.Calls.{refusal, meetsRow6, asOne}
 use Rattle.book.proofs.Kept.{count-is}
 use Rattle.book.specs.Laws.{TidyBook}
 use Rattle.book_files.specs.Places.{before}
 use Rattle.book_files.proofs.Before.{before-within}
 use Rattle.book_files.proofs.PutIn.{put-elsewhere}
 use Rattle.book_files.proofs.TakenOut.{taken-elsewhere}
-use Rattle.book_replies.specs.Parts.{Gives, inBook, onOther, Ready}
+use Rattle.book_replies.specs.Parts.{Gives, onOther, Ready}
 use Rattle.book_replies.proofs.Refusals.{gives-refusal}
 use Rattle.book_replies.proofs.Given.{given, gives, left, number-left, none-left}
 
@@ -51,7 +50,7 @@ module _ (calendar : List ℕ) (b : Book) (r : Record) (buffer : List ℕ) (read
 
   pub new-full : (p : Reply) → (is kindCreate r && eqb (b .count) mostFiles) ≡ true → p ≡ record { answer = BookFull; sent = 0; book = b } → Gives (onOther calendar b r) p buffer buffer
   new-full p t e =
-      subst⁻¹ (λ (full : Bool). Gives (cond full (refusal BookFull b) (inBook b (r .premise) (step calendar (premiseState b (r .premise)) r))) p buffer buffer) (full-is ∙ t)
+      subst⁻¹ (λ (full : Bool). Gives (cond full (refusal BookFull b) (asOne calendar b r)) p buffer buffer) (full-is ∙ t)
       (gives-refusal BookFull b p buffer e)
 
   module _ (places : (is kindCreate r && eqb (b .count) mostFiles) ≡ false) where

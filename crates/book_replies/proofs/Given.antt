@@ -19,10 +19,10 @@ use Rattle.premise.specs.Laws.{Held, KeptFor}
 use Rattle.premise.specs.Promises.{Room, asStruct, Answered}
 use Rattle.book.specs.declared.Book.{Book}
 use Rattle.book.specs.Book.{filesOf, bookOf, fileFor, withFile}
-use Rattle.book.specs.Calls.{premiseState, refusal, meetsRow6}
+use Rattle.book.specs.Calls.{refusal, meetsRow6, inBook, asOne}
 use Rattle.book.proofs.Keeps.{step-kept-file}
 use Rattle.book.proofs.Few.{step-all-few}
-use Rattle.book_replies.specs.Parts.{Gives, inBook, onOther, Ready}
+use Rattle.book_replies.specs.Parts.{Gives, onOther, Ready}
 
 -- ---- a file or none, as the struct has it
 struct-some : (file : Option File) (s : FileOrNone) → s ≡ asStruct file → s .held ≡ true → file ≡ some (s .file)
@@ -59,7 +59,7 @@ module _ (calendar : List ℕ) (b : Book) (r : Record) (buffer : List ℕ) (read
         → c ≡ bookOf (b .today) (withFile (r .premise) (given calendar b r file .state .file) (filesOf b))
         → Gives (onOther calendar b r) (record { answer = p .answer; sent = p .sent; book = c }) buffer after
     gives places p after c a e =
-        subst⁻¹ (λ (full : Bool). Gives (cond full (refusal BookFull b) (inBook b (r .premise) (step calendar (premiseState b (r .premise)) r))) (record { answer = p .answer; sent = p .sent; book = c }) buffer after) places
+        subst⁻¹ (λ (full : Bool). Gives (cond full (refusal BookFull b) (asOne calendar b r)) (record { answer = p .answer; sent = p .sent; book = c }) buffer after) places
         (subst⁻¹ (λ (x : Option File). Gives (inBook b (r .premise) (given calendar b r x)) (record { answer = p .answer; sent = p .sent; book = c }) buffer after) found
         (record { answer = a .answer; book = e; wrote = a .wrote }))
 

@@ -19,8 +19,8 @@ use Rattle.premise.specs.OnePremise.{Given, step}
 use Rattle.premise.specs.Laws.{Held, KeptFor}
 use Rattle.book.specs.declared.Book.{Book}
 use Rattle.book.specs.Book.{filesOf, bookOf, bookKept, fileFor, putIn, withFile}
-use Rattle.book.specs.Calls.{noticeBytes, premiseState, Result, call, meetsRow6, onDayMark, asOne, inBook}
-use Rattle.book.specs.Laws.{BookKept, OnHeld, givenAt, withFileAt, numbersOf, CallOnHeld}
+use Rattle.book.specs.Calls.{noticeBytes, premiseState, Result, call, meetsRow6, onDayMark, asOne, inBook, givenOn}
+use Rattle.book.specs.Laws.{BookKept, OnHeld, withFileAt, numbersOf, CallOnHeld}
 use Rattle.book.proofs.Files.{Rising, rises-rising, found-at, put-at}
 use Rattle.book.proofs.Kept.{count-is, stored, book-kept-means}
 use Rattle.book.proofs.Keeps.{step-kept-file, call-keeps}
@@ -34,7 +34,10 @@ map-set-same part d (y ∷ ys) zero x e = ap (λ (z : _). z ∷ map part ys) e
 map-set-same part d (y ∷ ys) (suc i) x e = ap (λ (l : List _). part y ∷ l) (map-set-same part d ys i x e)
 
 module _ (calendar : List ℕ) (b : Book) (bytes lent : List ℕ) (r : Record) (at : ℕ) (past g : File) (k : BookKept b) (room : noticeBytes ≤ length lent)
-    (e : reading bytes ≡ Says r) (h : OnHeld b at past r) (left : givenAt calendar b at past r .state .file ≡ some g) where
+    (e : reading bytes ≡ Says r) (h : OnHeld b at past r) (left : givenOn calendar (b .today) (some (getD (b .files) at past)) r .state .file ≡ some g) where
+  abbrev ruled : Given
+  ruled = givenOn calendar (b .today) (some (getD (b .files) at past)) r
+
   not-mark : is kindDayMark r ≡ false
   not-mark = ne-eqb (r .kind) kindDayMark (λ q. omega (arith, q, h .upto))
 
@@ -54,8 +57,8 @@ module _ (calendar : List ℕ) (b : Book) (bytes lent : List ℕ) (r : Record) (
   found : fileFor (r .premise) (filesOf b) ≡ some (getD (b .files) at past)
   found = found-at past (r .premise) 0 (filesOf b) rising at inside own ∙ ap some read-there
 
-  given : step calendar (premiseState b (r .premise)) r ≡ givenAt calendar b at past r
-  given = ap (λ (x : Option File). step calendar (record { today = b .today; file = x }) r) found
+  given : step calendar (premiseState b (r .premise)) r ≡ ruled
+  given = ap (λ (x : Option File). givenOn calendar (b .today) x r) found
 
   kept-file : KeptFor (r .premise) g
   kept-file = subst (Held (KeptFor (r .premise))) (ap (λ (x : Given). x .state .file) given ∙ left) (step-kept-file b k calendar r (says bytes r e .formed))
@@ -65,14 +68,14 @@ module _ (calendar : List ℕ) (b : Book) (bytes lent : List ℕ) (r : Record) (
   put-there = ap (bookOf (b .today)) (put-at past g 0 (filesOf b) rising at inside (own ∙ sym (kept-file .number))) ∙ stored b (k .tidy) at g (h .within)
 
   abbrev Expected : Result
-  Expected = record { answer = givenAt calendar b at past r .answer; notices = givenAt calendar b at past r .notices; book = withFileAt b at g }
+  Expected = record { answer = ruled .answer; notices = ruled .notices; book = withFileAt b at g }
 
   result : call calendar b bytes lent ≡ Expected
   result =
       call-acts calendar b bytes lent k room (ap (meetsRow6 b) e ∙ not-new b r (getD (b .files) at past) found) ∙ ap (acted calendar b) e
       ∙ ap (λ (a : Bool). cond a (onDayMark calendar b r) (asOne calendar b r)) not-mark
       ∙ ap (inBook b (r .premise)) given
-      ∙ ap {B = Result} (λ (c : Book). record { answer = givenAt calendar b at past r .answer; notices = givenAt calendar b at past r .notices; book = c })
+      ∙ ap {B = Result} (λ (c : Book). record { answer = ruled .answer; notices = ruled .notices; book = c })
       (ap (λ (x : Option File). bookOf (b .today) (withFile (r .premise) x (filesOf b))) left ∙ put-there)
 
   numbers : numbersOf (withFileAt b at g) ≡ numbersOf b

@@ -3,6 +3,7 @@
 use Prim.Native.Nat.{ℕ, _+_}
 use mathlib.Core.List.{List, [], _∷_, _++_, map}
 use mathlib.Core.Bool.{Bool, true, false, cond, not, _&&_}
+use mathlib.Core.Option.{Option}
 use lib.Dec.{eqb, ltb}
 use lib.ListN.{length}
 use Rattle.records.specs.declared.Record.{Record}
@@ -67,6 +68,10 @@ markedBook calendar b day =
       notices = markedNotices calendar day (filesOf b);
       book = bookOf day (markedFiles calendar day (filesOf b));
     }
+
+-- what the one-premise rules give on T and a file or none
+abbrev pub givenOn : List ℕ → ℕ → Option File → Record → Given
+givenOn calendar today file r = step calendar (record { today = today; file = file }) r
 
 -- Any other record goes to its premise: the one-premise rules on T and that file or none.
 abbrev pub premiseState : Book → ℕ → State

@@ -16,12 +16,12 @@ use Rattle.premise.specs.declared.File.{File}
 use Rattle.premise.specs.declared.Answer.the-variants.{MalformedRecord, NoSuchPremise}
 use Rattle.premise.specs.Steps.{is}
 use Rattle.premise.specs.Refusals.{number, needsPremise}
-use Rattle.premise.specs.OnePremise.{Given, step}
+use Rattle.premise.specs.OnePremise.{Given}
 use Rattle.premise.specs.WellKept.{FileKept}
 use Rattle.premise.specs.Laws.{KeptFor}
 use Rattle.book.specs.declared.Book.{Book}
 use Rattle.book.specs.Book.{mostFiles, filesOf, bookOf, freshBook, risesFrom, bookKept, fileFor}
-use Rattle.book.specs.Calls.{noticeBytes, meetsRow6, markedFiles, markedNotices, onPremise, refusal, call, onDayMark}
+use Rattle.book.specs.Calls.{noticeBytes, meetsRow6, markedFiles, markedNotices, onPremise, refusal, call, onDayMark, givenOn}
 
 -- ---- well kept
 -- at most 64 files, and the places after them unused: what the functions on a book's places ask of it
@@ -74,10 +74,6 @@ pub record OnHeld (b : Book) (at : ℕ) (past : File) (r : Record) : Type 0 wher
   pub from : kindNewOrder ≤ r .kind
   pub upto : r .kind ≤ kindReply
 
--- what the one-premise rules give on T and the file at a place
-abbrev pub givenAt : List ℕ → Book → ℕ → File → Record → Given
-givenAt calendar b at past r = step calendar (record { today = b .today; file = some (getD (b .files) at past) }) r
-
 -- the book with another file at a place
 abbrev pub withFileAt : Book → ℕ → File → Book
 withFileAt b at g = record { today = b .today; count = b .count; files = set (b .files) at g }
@@ -87,10 +83,8 @@ abbrev pub numbersOf : Book → List ℕ
 numbersOf b = map (λ (f : File). f .premise) (b .files)
 
 -- what a call comes to that leaves the file g: the one-premise rules' step on the file at the place, with g stored there
-pub record StoresFile (calendar : List ℕ) (b : Book) (bytes lent : List ℕ) (r : Record) (at : ℕ) (past g : File) : Type 0 where
-  pub result :
-      call calendar b bytes lent
-      ≡ record { answer = givenAt calendar b at past r .answer; notices = givenAt calendar b at past r .notices; book = withFileAt b at g }
+pub record StoresFile (calendar : List ℕ) (b : Book) (bytes lent : List ℕ) (r : Record) (at : ℕ) (given : Given) (g : File) : Type 0 where
+  pub result : call calendar b bytes lent ≡ record { answer = given .answer; notices = given .notices; book = withFileAt b at g }
   pub file : KeptFor (r .premise) g
   pub book : bookKept (withFileAt b at g) ≡ true
   pub numbers : numbersOf (withFileAt b at g) ≡ numbersOf b
@@ -99,8 +93,8 @@ abbrev pub CallOnHeld : Type 0
 CallOnHeld =
     (calendar : List ℕ) (b : Book) (bytes lent : List ℕ) (r : Record) (at : ℕ) (past g : File)
     → bookKept b ≡ true → noticeBytes ≤ length lent → reading bytes ≡ Says r → OnHeld b at past r
-    → givenAt calendar b at past r .state .file ≡ some g
-    → StoresFile calendar b bytes lent r at past g
+    → givenOn calendar (b .today) (some (getD (b .files) at past)) r .state .file ≡ some g
+    → StoresFile calendar b bytes lent r at (givenOn calendar (b .today) (some (getD (b .files) at past)) r) g
 
 -- ---- a call by what its record says, without a look into the files
 -- malformed bytes get 3

@@ -20,11 +20,12 @@ use Rattle.book.proofs.Files.{Rising, rises-rising, put-at}
 use Rattle.book.proofs.Kept.{count-is}
 use Rattle.book.specs.Laws.{TidyBook}
 use Rattle.book.proofs.Rows.{not-new}
+use Rattle.book.specs.Calls.{givenOn}
 use Rattle.book_files.specs.Places.{before}
 use Rattle.book_files.proofs.Before.{Here, found-here}
 use Rattle.book_files.proofs.TakenOut.{taken-here}
 use Rattle.book_replies.specs.Parts.{Gives, onOther, Ready}
-use Rattle.book_replies.proofs.Given.{given, gives, left, number-left, none-left}
+use Rattle.book_replies.proofs.Given.{gives, left, number-left, none-left}
 
 module _ (calendar : List ℕ) (b : Book) (r : Record) (buffer : List ℕ) (ready : Ready b r buffer) (at : ℕ) (place : at ≡ before (r .premise) (filesOf b)) (f : File) (found : fileFor (r .premise) (filesOf b) ≡ some f) where
   pub held-tidy : TidyOrNone (record { held = true; file = f })
@@ -42,7 +43,7 @@ module _ (calendar : List ℕ) (b : Book) (r : Record) (buffer : List ℕ) (read
   pub held-asks : TidyBook b × (at < b .count)
   held-asks = (ready .kept .tidy, held-place)
 
-  pub held-replaced : (p : Replied) (after : List ℕ) (c : Book) → Answered (given calendar b r (some f)) 0 p buffer after → p .after .held ≡ true
+  pub held-replaced : (p : Replied) (after : List ℕ) (c : Book) → Answered (givenOn calendar (b .today) (some f) r) 0 p buffer after → p .after .held ≡ true
       → c ≡ bookOf (b .today) (set (filesOf b) at (p .after .file))
       → Gives (onOther calendar b r) (record { answer = p .answer; sent = p .sent; book = c }) buffer after
   held-replaced p after c a h e =
@@ -54,7 +55,7 @@ module _ (calendar : List ℕ) (b : Book) (r : Record) (buffer : List ℕ) (read
       ∙ ap (bookOf (b .today)) (sym (put-at blankFile g 0 (filesOf b) rising at (omega (arith, place, held-here .0)) own))
       ∙ ap (λ (x : Option File). bookOf (b .today) (withFile (r .premise) x (filesOf b))) (sym (left calendar b r buffer ready (some f) found p after a h)))
 
-  pub held-removed : (p : Replied) (after : List ℕ) (c : Book) → Answered (given calendar b r (some f)) 0 p buffer after → p .after .held ≡ false
+  pub held-removed : (p : Replied) (after : List ℕ) (c : Book) → Answered (givenOn calendar (b .today) (some f) r) 0 p buffer after → p .after .held ≡ false
       → c ≡ bookOf (b .today) (removed at (filesOf b))
       → Gives (onOther calendar b r) (record { answer = p .answer; sent = p .sent; book = c }) buffer after
   held-removed p after c a h e =

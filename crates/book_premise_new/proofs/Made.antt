@@ -23,7 +23,7 @@ use Rattle.premise.proofs.Answers.{only-create-makes}
 use Rattle.book.specs.declared.Book.{Book}
 use Rattle.book.specs.declared.Reply.{Reply}
 use Rattle.book.specs.Book.{mostFiles, filesOf, bookOf, fileFor, withFile}
-use Rattle.book.specs.Calls.{refusal, meetsRow6, asOne}
+use Rattle.book.specs.Calls.{refusal, meetsRow6, asOne, givenOn}
 use Rattle.book.proofs.Kept.{count-is}
 use Rattle.book.specs.Laws.{TidyBook}
 use Rattle.book_files.specs.Places.{before}
@@ -32,7 +32,7 @@ use Rattle.book_files.proofs.PutIn.{put-elsewhere}
 use Rattle.book_files.proofs.TakenOut.{taken-elsewhere}
 use Rattle.book_replies.specs.Parts.{Gives, onOther, Ready}
 use Rattle.book_replies.proofs.Refusals.{gives-refusal}
-use Rattle.book_replies.proofs.Given.{given, gives, left, number-left, none-left}
+use Rattle.book_replies.proofs.Given.{gives, left, number-left, none-left}
 
 -- where there is no file
 pub none-tidy : (file : File) → file ≡ blankFile → TidyOrNone (record { held = false; file = file })
@@ -55,7 +55,7 @@ module _ (calendar : List ℕ) (b : Book) (r : Record) (buffer : List ℕ) (read
 
   module _ (places : (is kindCreate r && eqb (b .count) mostFiles) ≡ false) where
     -- a file that is left was made by a create, so there is a place for it
-    pub new-asks : (p : Replied) (after : List ℕ) → Answered (given calendar b r none) 0 p buffer after → p .after .held ≡ true → TidyBook b × (at ≤ b .count) × (b .count < mostFiles)
+    pub new-asks : (p : Replied) (after : List ℕ) → Answered (givenOn calendar (b .today) none r) 0 p buffer after → p .after .held ≡ true → TidyBook b × (at ≤ b .count) × (b .count < mostFiles)
     new-asks p after a h = (ready .kept .tidy, omega (arith, place, count-is b (ready .kept .tidy), before-within (r .premise) (filesOf b)), go (is kindCreate r) refl)
       where
         go : (creates : Bool) → is kindCreate r ≡ creates → b .count < mostFiles
@@ -65,7 +65,7 @@ module _ (calendar : List ℕ) (b : Book) (r : Record) (buffer : List ℕ) (read
             let s = left calendar b r buffer ready none found p after a h in
             let z : _≡_ {A = ℕ} 0 1 = cc (m, s) in absurd (omega (arith, z))
 
-    pub new-inserted : (p : Replied) (after : List ℕ) (c : Book) → Answered (given calendar b r none) 0 p buffer after → p .after .held ≡ true
+    pub new-inserted : (p : Replied) (after : List ℕ) (c : Book) → Answered (givenOn calendar (b .today) none r) 0 p buffer after → p .after .held ≡ true
         → c ≡ bookOf (b .today) (inserted at (p .after .file) (filesOf b))
         → Gives (onOther calendar b r) (record { answer = p .answer; sent = p .sent; book = c }) buffer after
     new-inserted p after c a h e =
@@ -77,7 +77,7 @@ module _ (calendar : List ℕ) (b : Book) (r : Record) (buffer : List ℕ) (read
         ∙ ap (bookOf (b .today)) (sym (put-elsewhere blankFile g (filesOf b) (ap (λ (m : ℕ). fileFor m (filesOf b)) n ∙ found)))
         ∙ ap (λ (x : Option File). bookOf (b .today) (withFile (r .premise) x (filesOf b))) (sym (left calendar b r buffer ready none found p after a h)))
 
-    pub new-left-out : (p : Replied) (after : List ℕ) → Answered (given calendar b r none) 0 p buffer after → p .after .held ≡ false
+    pub new-left-out : (p : Replied) (after : List ℕ) → Answered (givenOn calendar (b .today) none r) 0 p buffer after → p .after .held ≡ false
         → Gives (onOther calendar b r) (record { answer = p .answer; sent = p .sent; book = b }) buffer after
     new-left-out p after a h =
         gives calendar b r buffer ready none found (full-is ∙ places) p after b a

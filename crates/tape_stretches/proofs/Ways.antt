@@ -2,6 +2,7 @@
 use Prim.Native.Nat.{ℕ, _+_, _≤_, _<_}
 use mathlib.Core.Path.{_≡_, sym, ap, subst, subst⁻¹, _∙_}
 use mathlib.Core.List.{List}
+use mathlib.Core.Option.{some}
 use mathlib.Core.Bool.{Bool, true, false}
 use native.Mathlib.Omega.{arith}
 use lib.ListN.{length, getD, set, length-map}
@@ -21,7 +22,7 @@ use Rattle.premise_quiet.specs.Quiet.{touched}
 use Rattle.book.specs.declared.Book.{Book}
 use Rattle.book.specs.declared.Reply.{Reply}
 use Rattle.book.specs.Book.{mostFiles, filesOf, bookKept}
-use Rattle.book.specs.Calls.{noticeBytes, markedNotices}
+use Rattle.book.specs.Calls.{noticeBytes, markedNotices, givenOn}
 use Rattle.book.specs.Laws.{BookKept, withFileAt, numbersOf, TidyBook}
 use Rattle.book.specs.Promise.{Promised}
 use Rattle.book.proofs.Kept.{book-kept-means}
@@ -33,7 +34,7 @@ use Rattle.book_look.specs.declared.Look.the-variants.{Refused, Held, NextDay}
 use Rattle.book_look.specs.LookUp.{lookUp, Known, KnownHeld}
 use Rattle.book_look.proofs.LookUp.{look-up-knows}
 use Rattle.book_in_place.specs.declared.HeldReply.{HeldReply}
-use Rattle.book_in_place.specs.Held.{HeldReady, heldGiven, HeldGives}
+use Rattle.book_in_place.specs.Held.{HeldReady, HeldGives}
 use Rattle.book_in_place.specs.InPlace.{InPlace}
 use Rattle.book_in_place.proofs.Ready.{book-ready}
 use Rattle.book_in_place.proofs.InPlace.{refused-in-place, held-in-place, marked-in-place}
@@ -99,7 +100,7 @@ module _ {b : Book} {numbers buffer : List ℕ} (t : Standing b numbers buffer) 
       pub held-asks : HeldReady (getD (b .files) at past) r buffer
       held-asks = book-ready b bytes buffer r at past (t .kept) (t .room) found
 
-      pub by-file : {calendar : List ℕ} (reply : HeldReply) {after : List ℕ} → HeldGives (heldGiven calendar (b .today) (getD (b .files) at past) r) reply buffer after
+      pub by-file : {calendar : List ℕ} (reply : HeldReply) {after : List ℕ} → HeldGives (givenOn calendar (b .today) (some (getD (b .files) at past)) r) reply buffer after
           → Made calendar b bytes buffer (record { answer = reply .answer; sent = reply .sent; book = withFileAt b at (reply .file); numbers = numbers; buffer = after })
       by-file {calendar} reply {after} gives = in-place (held-in-place calendar b bytes buffer after r at past reply (t .kept) (t .room) found gives)
 

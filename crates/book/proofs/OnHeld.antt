@@ -1,13 +1,13 @@
 -- A record of kinds 3 to 9 on a premise whose file stands at a place of a well-kept book: the call is the one-premise rules' step on that
 -- file, and stores the file that is left at that place. Assumes nothing.
-use Prim.Native.Nat.{ℕ, zero, suc, _≤_, _<_}
-use mathlib.Core.Path.{_≡_, refl, sym, ap, subst, _∙_}
-use mathlib.Core.List.{List, [], _∷_, map}
+use Prim.Native.Nat.{ℕ, _≤_, _<_}
+use mathlib.Core.Path.{_≡_, sym, ap, subst, _∙_}
+use mathlib.Core.List.{List}
 use mathlib.Core.Option.{Option, some}
 use mathlib.Core.Bool.{Bool, false, cond}
 use native.Mathlib.Omega.{arith}
-use lib.ListN.{length, getD, set}
-use lib.Seq.{getD-take}
+use lib.ListN.{length, getD}
+use lib.Seq.{getD-take, map-set-same}
 use borrow.Author.Tests.{ne-eqb}
 use Rattle.records.specs.declared.Record.{Record}
 use Rattle.records.specs.declared.Reading.the-variants.{Says}
@@ -26,12 +26,6 @@ use Rattle.book.proofs.Kept.{count-is, stored, book-kept-means}
 use Rattle.book.proofs.Keeps.{step-kept-file, call-keeps}
 use Rattle.book.proofs.Acts.{acted, call-acts}
 use Rattle.book.proofs.Rows.{not-new}
-
--- a part that the new element has in common with the old one
-pub map-set-same : {X Y : Type 0} (part : X → Y) (d : X) (l : List X) (i : ℕ) (x : X) → part x ≡ part (getD l i d) → map part (set l i x) ≡ map part l
-map-set-same part d [] i x e = refl
-map-set-same part d (y ∷ ys) zero x e = ap (λ (z : _). z ∷ map part ys) e
-map-set-same part d (y ∷ ys) (suc i) x e = ap (λ (l : List _). part y ∷ l) (map-set-same part d ys i x e)
 
 module _ (calendar : List ℕ) (b : Book) (bytes lent : List ℕ) (r : Record) (at : ℕ) (past g : File) (k : BookKept b) (room : noticeBytes ≤ length lent)
     (e : reading bytes ≡ Says r) (h : OnHeld b at past r) (left : givenOn calendar (b .today) (some (getD (b .files) at past)) r .state .file ≡ some g) where
@@ -79,7 +73,7 @@ module _ (calendar : List ℕ) (b : Book) (bytes lent : List ℕ) (r : Record) (
       (ap (λ (x : Option File). bookOf (b .today) (withFile (r .premise) x (filesOf b))) left ∙ put-there)
 
   numbers : numbersOf (withFileAt b at g) ≡ numbersOf b
-  numbers = map-set-same (λ (f : File). f .premise) past (b .files) at g (kept-file .number ∙ sym (h .own))
+  numbers = map-set-same (λ (f : File). f .premise) (b .files) at g past (kept-file .number ∙ sym (h .own))
 
 pub call-on-held : CallOnHeld
 call-on-held calendar b bytes lent r at past g well room e h left =

@@ -92,8 +92,7 @@ noticesFor premise (m ∷ ms) = withPremise premise (rows (m .reply .sent) (m .a
 
 -- ---- what the one-premise rules give, from the premise's own records and the day marks alone
 abbrev pub ruledAnswers : List Given → List ℕ
-ruledAnswers [] = []
-ruledAnswers (g ∷ gs) = number (g .answer) ∷ ruledAnswers gs
+ruledAnswers gs = map (λ (g : Given). number (g .answer)) gs
 
 abbrev pub ruledNotices : List Given → List (List ℕ)
 ruledNotices [] = []

@@ -1,7 +1,7 @@
 -- A day mark on a tidy book, file by file: what stands after some turns, and at the end. Assumes nothing.
 use Prim.Native.Nat.{ℕ, suc, _+_, _-_, _≤_, _<_}
 use mathlib.Core.Path.{_≡_, refl, sym, ap, ap₂, subst, subst⁻¹, _∙_}
-use mathlib.Core.List.{List, [], _∷_, _++_, append-assoc, append-nil}
+use mathlib.Core.List.{List, [], _∷_, _++_, append-assoc, append-nil, map-append}
 use mathlib.Core.Bool.{Bool, false}
 use native.Mathlib.Numerals.{add-one}
 use native.Mathlib.Omega.{arith}
@@ -31,10 +31,6 @@ use Rattle.book_files.proofs.Tidy.{past, spare, withPlaces, at-file, length-fil
 
 module _ (calendar : List ℕ) (day : ℕ) where
   -- a mark on a list that is put together
-  files-append : (xs ys : List File) → markedFiles calendar day (xs ++ ys) ≡ markedFiles calendar day xs ++ markedFiles calendar day ys
-  files-append [] ys = refl
-  files-append (x ∷ xs) ys = ap (λ (l : List File). marked calendar day x .file ∷ l) (files-append xs ys)
-
   notices-append : (xs ys : List File) → markedNotices calendar day (xs ++ ys) ≡ markedNotices calendar day xs ++ markedNotices calendar day ys
   notices-append [] ys = refl
   notices-append (x ∷ xs) ys =
@@ -76,7 +72,7 @@ module _ (calendar : List ℕ) (day : ℕ) (b : Book) (tidy : TidyBook b) where
     files-more = rw (add-one i, take-suc (filesOf b) i past inside)
 
     marked-more : markedFiles calendar day (take (i + 1) (filesOf b)) ≡ markedFiles calendar day (take i (filesOf b)) ++ (marked calendar day file .file ∷ [])
-    marked-more = ap (markedFiles calendar day) files-more ∙ files-append calendar day (take i (filesOf b)) (file ∷ [])
+    marked-more = ap (markedFiles calendar day) files-more ∙ map-append (λ (f : File). marked calendar day f .file) (take i (filesOf b)) (file ∷ [])
 
     notices-more : markedNotices calendar day (take (i + 1) (filesOf b)) ≡ markedNotices calendar day (take i (filesOf b)) ++ marked calendar day file .notices
     notices-more =

@@ -15,7 +15,7 @@ use Rattle.tape_output.specs.declared.Playing.{Playing}
 use Rattle.tape_output.specs.Output.{fileLines, ending}
 use Rattle.tape_output.specs.Stretches.{endingMost, Ready}
 use Rattle.tape_output.proofs.Lines.{ending-most}
-use Rattle.tape_output.proofs.Putting.{Putting, putting-none, putting-length, putting-room, putting-more, putting-last}
+use Rattle.tape_numbers.proofs.Putting.{Putting, putting-none, putting-length, putting-room, putting-more, putting-last}
 
 abbrev pub lineOf : File → List ℕ
 lineOf f = fileLine (f .premise) (f .retailer) (f .since)

@@ -23,13 +23,12 @@ use Rattle.premise.specs.Refusals.{Row, row, firstRow, isHeld, ordersOf, premis
 use Rattle.premise.specs.OnePremise.{marked}
 use Rattle.premise.proofs.Table.{needs-file}
 use Rattle.book.specs.Book.{mostFiles, filesOf, bookOf, fileFor}
-use Rattle.book.specs.Calls.{recordRows, markedFiles, call}
+use Rattle.book.specs.Calls.{recordRows, markedFiles, call, meetsRow6, onDayMark, asOne}
 use Rattle.book.specs.Laws.{numbersOf, CallMalformed, CallNotHeld, CallOnMark, MarkKeepsNumbers}
-use Rattle.book.specs.Demand3.{meetsRow6}
 use Rattle.book.proofs.Kept.{book-kept-means}
-use Rattle.book.proofs.Rows.{not-held-refuses, record-decides}
+use Rattle.book.proofs.Rows.{refusing, record-decides}
 use Rattle.book.proofs.Marks.{marked-one}
-use Rattle.book.proofs.Acts.{decided, refuses, asMark, asOne, acted, call-acts}
+use Rattle.book.proofs.Acts.{decided, refuses, acted, call-acts}
 
 pub call-malformed : CallMalformed
 call-malformed calendar b bytes lent well room e = call-acts calendar b bytes lent (book-kept-means b .0 well) room (ap (meetsRow6 b) e) ∙ ap (acted calendar b) e
@@ -43,7 +42,7 @@ call-not-held calendar b bytes lent r well room e needs absent =
     ap (λ (first : Answer). decided calendar b first (reading bytes))
     (record-decides calendar b bytes lent room well ∙ ap (λ (d : Reading). firstRow (recordRows calendar b d)) e
     ∙ ap (λ (file : Option File). firstRow (premiseRows file r ++ later file)) absent ∙ needs-file r (later none) needs)
-    ∙ refuses calendar b NoSuchPremise (reading bytes) not-held-refuses
+    ∙ refuses calendar b NoSuchPremise (reading bytes) (refusing NoSuchPremise refl)
 
 -- ---- a day mark
 pub call-on-mark : CallOnMark
@@ -52,7 +51,7 @@ call-on-mark calendar b bytes lent r well room e mark =
     let not-new : meetsRow6 b (Says r) ≡ false =
     ap (λ (a : Bool). a && not (isHeld (fileFor (r .premise) (filesOf b))) && eqb (length (filesOf b)) mostFiles) other in
     call-acts calendar b bytes lent (book-kept-means b .0 well) room (ap (meetsRow6 b) e ∙ not-new) ∙ ap (acted calendar b) e
-    ∙ ap (λ (a : Bool). cond a (asMark calendar b r) (asOne calendar b r)) mark
+    ∙ ap (λ (a : Bool). cond a (onDayMark calendar b r) (asOne calendar b r)) mark
 
 abbrev numberOf : File → ℕ
 numberOf f = f .premise
@@ -72,4 +71,4 @@ mark-keeps-numbers calendar b day k =
     let many = length-map fs (λ (f : File). marked calendar day f .file) in
     numbers-by day (markedFiles calendar day fs)
     ∙ (λ i. marked-as-before calendar day fs (k .files) i ++ map numberOf (replicate (mostFiles - many i) blankFile))
-    ∙ sym (ap numbersOf (k .whole) ∙ numbers-by (b .today) fs)
+    ∙ sym (ap numbersOf (k .tidy .whole) ∙ numbers-by (b .today) fs)

@@ -14,15 +14,16 @@ use Rattle.premise.specs.declared.Answer.the-variants.{Accepted}
 use Rattle.premise.specs.Steps.{is}
 use Rattle.premise.specs.Refusals.{firstRow, number}
 use Rattle.premise.proofs.Table.{accepted-is-zero}
+use Rattle.premise.proofs.Answers.{holds}
 use Rattle.book.specs.declared.Book.{Book}
-use Rattle.book.specs.Calls.{recordRows, callRows, Result, onMark, onPremise, onReading, refusal, call}
+use Rattle.book.specs.Calls.{recordRows, callRows, Result, onPremise, onReading, refusal, call, markedBook}
 use Rattle.book.specs.Demand1.{FirstRowAnswers, RefusalChangesNothing, ZeroWhereNoRow}
-use Rattle.book.proofs.Rows.{holds, passed, not-malformed, call-exact}
+use Rattle.book.proofs.Rows.{passed, not-malformed, call-exact}
 
 module _ (calendar : List ℕ) (b : Book) (bytes lent : List ℕ) where
   accepts : (d : Reading) → anyOf holds (recordRows calendar b d) ≡ false → onReading calendar b d .answer ≡ Accepted
   accepts Malformed n = absurd (not-malformed calendar b n)
-  accepts (Says r) n = by-test (λ (x : Result). x .answer ≡ Accepted) (is kindDayMark r) (onMark calendar b r) (onPremise calendar b r) (λ t. refl) (λ t. refl)
+  accepts (Says r) n = by-test (λ (x : Result). x .answer ≡ Accepted) (is kindDayMark r) (markedBook calendar b (r .day)) (onPremise calendar b r) (λ t. refl) (λ t. refl)
 
   pub call-answer : call calendar b bytes lent .answer ≡ firstRow (callRows calendar b bytes lent)
   unfolding call

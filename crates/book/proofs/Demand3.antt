@@ -2,7 +2,7 @@
 -- records between premises does not matter. Assumes nothing.
 use Prim.Native.Nat.{ℕ, min}
 use mathlib.Core.Path.{_≡_, refl, ap, ap₂, sym, subst, _∙_}
-use mathlib.Core.List.{List, [], _∷_, _++_, map, append-assoc}
+use mathlib.Core.List.{List, [], _∷_, _++_, map, map-append, append-assoc}
 use mathlib.Core.Bool.{Bool, true, false, cond}
 use native.Mathlib.Omega.{arith}
 use Rattle.days.specs.Days.{lastDay}
@@ -15,7 +15,7 @@ use Rattle.premise.specs.OnePremise.{State, Given, startState, step, runs, endS
 use Rattle.book.specs.declared.Book.{Book}
 use Rattle.book.specs.Book.{filesOf, bookOf, freshBook, fileFor}
 use Rattle.book.specs.Calls.{premiseState, Result, call}
-use Rattle.book.specs.Demand3.{Made, Played, lastBook, Allowed, AllAllowed, Premise, concerns, ownBytes, said, records, answers, withPremise, noticesFor, ruledAnswers, ruledNotices, AsRuled, EachPremiseAlone, SameFor, ShuffleProof}
+use Rattle.book.specs.Demand3.{Made, Played, lastBook, Allowed, AllAllowed, Premise, concerns, ownBytes, said, records, answers, withPremise, noticesFor, ruledAnswers, ruledNotices, AsRuled, EachPremiseAlone, SameFor, ShuffleProof, Demand3}
 use Rattle.book.specs.Promise.{Promised}
 use Rattle.book.proofs.Files.{rises-rising}
 use Rattle.book.proofs.SameFiles.{same-files}
@@ -26,20 +26,9 @@ use Rattle.book.proofs.OnWay.{OnWay, sound, ranged-acted}
 use Rattle.book.proofs.OneCall.{state-of, mine, Agrees, agrees}
 
 -- ---- a list of calls is its first call and the rest
-own-first : (premise : ℕ) (m : Made) (ms : List Made) → records (ownBytes premise (m ∷ ms)) ≡ mine premise (reading (m .bytes)) ++ records (ownBytes premise ms)
-own-first premise m ms = go (concerns premise (reading (m .bytes)))
-  where
-    go : (c : Bool) → records (cond c (m .bytes ∷ ownBytes premise ms) (ownBytes premise ms)) ≡ cond c (said (reading (m .bytes))) [] ++ records (ownBytes premise ms)
-    go true = refl
-    go false = refl
-
-answers-first : (premise : ℕ) (m : Made) (ms : List Made)
-    → answers premise (m ∷ ms) ≡ cond (concerns premise (reading (m .bytes))) (number (m .reply .answer) ∷ []) [] ++ answers premise ms
-answers-first premise m ms = go (concerns premise (reading (m .bytes)))
-  where
-    go : (c : Bool) → cond c (number (m .reply .answer) ∷ answers premise ms) (answers premise ms) ≡ cond c (number (m .reply .answer) ∷ []) [] ++ answers premise ms
-    go true = refl
-    go false = refl
+with-first : {X Y : Type 0} (of : List X → List Y) (x : X) (xs : List X) (ys : List Y) → of (x ∷ xs) ≡ ys ++ of xs → (c : Bool) → of (cond c (x ∷ xs) xs) ≡ cond c ys [] ++ of xs
+with-first of x xs ys e true = e
+with-first of x xs ys e false = refl
 
 -- the one-premise rules on a list and then on another
 end-append : (calendar : List ℕ) (s : State) (xs ys : List Record) → endState calendar s (xs ++ ys) ≡ endState calendar (endState calendar s xs) ys
@@ -49,10 +38,6 @@ end-append calendar s (x ∷ xs) ys = end-append calendar (step calendar s x .st
 runs-append : (calendar : List ℕ) (s : State) (xs ys : List Record) → runs calendar s (xs ++ ys) ≡ runs calendar s xs ++ runs calendar (endState calendar s xs) ys
 runs-append calendar s [] ys = refl
 runs-append calendar s (x ∷ xs) ys = ap (λ (l : List Given). step calendar s x ∷ l) (runs-append calendar (step calendar s x .state) xs ys)
-
-answers-append : (gs hs : List Given) → ruledAnswers (gs ++ hs) ≡ ruledAnswers gs ++ ruledAnswers hs
-answers-append [] hs = refl
-answers-append (g ∷ gs) hs = ap (λ (l : List ℕ). number (g .answer) ∷ l) (answers-append gs hs)
 
 notices-append : (gs hs : List Given) → ruledNotices (gs ++ hs) ≡ ruledNotices gs ++ ruledNotices hs
 notices-append [] hs = refl
@@ -104,14 +89,16 @@ module _ (calendar : List ℕ) where
       let next : State = premiseState (m .reply .book) premise in
       let now : List Record = mine premise (reading (m .bytes)) in
       let later : List Record = records (ownBytes premise ms) in
-      let own : records (ownBytes premise (m ∷ ms)) ≡ now ++ later = own-first premise m ms in
+      let own : records (ownBytes premise (m ∷ ms)) ≡ now ++ later =
+      with-first records (m .bytes) (ownBytes premise ms) (said (reading (m .bytes))) refl (concerns premise (reading (m .bytes))) in
       let split : runs calendar s (records (ownBytes premise (m ∷ ms))) ≡ runs calendar s now ++ runs calendar next later =
       ap (runs calendar s) own ∙ runs-append calendar s now later ∙ ap (λ x. runs calendar s now ++ runs calendar x later) (sym (one .state)) in
       record {
         state = rest .state ∙ ap (λ x. endState calendar x later) (one .state) ∙ sym (end-append calendar s now later) ∙ ap (endState calendar s) (sym own);
         answered =
-            answers-first premise m ms ∙ ap₂ (λ (x y : List ℕ). x ++ y) (one .answered) (rest .answered)
-            ∙ sym (answers-append (runs calendar s now) (runs calendar next later)) ∙ ap ruledAnswers (sym split);
+            with-first (λ (l : List ℕ). l) (number (m .reply .answer)) (answers premise ms) (number (m .reply .answer) ∷ []) refl (concerns premise (reading (m .bytes)))
+            ∙ ap₂ (λ (x y : List ℕ). x ++ y) (one .answered) (rest .answered)
+            ∙ sym (map-append (λ (g : Given). number (g .answer)) (runs calendar s now) (runs calendar next later)) ∙ ap ruledAnswers (sym split);
         told =
             ap₂ (λ (x y : List (List ℕ)). x ++ y) (call-told b k m (p .0) (a .0) premise) (rest .told)
             ∙ sym (notices-append (runs calendar s now) (runs calendar next later)) ∙ ap ruledNotices (sym split);
@@ -144,7 +131,7 @@ same-book : (b c : Book) → OnWay b → OnWay c → b .today ≡ c .today → (
 same-book b c k l day same =
     let files : filesOf b ≡ filesOf c =
     same-files Premise 0 0 (filesOf b) (filesOf c) (rises-rising 0 (filesOf b) (k .kept .rising)) (rises-rising 0 (filesOf c) (l .kept .rising)) (k .ranged) (l .ranged) same in
-    k .kept .whole ∙ ap₂ bookOf day files ∙ sym (l .kept .whole)
+    k .kept .tidy .whole ∙ ap₂ bookOf day files ∙ sym (l .kept .tidy .whole)
 
 pub shuffle-proof : ShuffleProof
 shuffle-proof calendar start ms ns p a q c agree =
@@ -174,3 +161,6 @@ shuffle-proof calendar start ms ns p a q c agree =
     day =
         let i : Premise 1 = record { above = omega arith; below = omega arith } in
         one 1 i .today ∙ ap (λ l. endState calendar (startState start) (records l) .today) (agree 1 i) ∙ sym (other 1 i .today)
+
+pub demand-3 : Demand3
+demand-3 = record { alone = each-premise-alone; shuffled = shuffle-proof }

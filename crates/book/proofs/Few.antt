@@ -30,7 +30,7 @@ marks-few calendar day (f ∷ fs) u =
     )
 
 pub mark-all-few : MarkAllFew
-mark-all-few calendar b day k = omega (arith, marks-few calendar day (filesOf b) (k .files), k .few, count-is b k)
+mark-all-few calendar b day k = omega (arith, marks-few calendar day (filesOf b) (k .files), k .tidy .few, count-is b (k .tidy))
 
 pub step-all-few : StepAllFew
 step-all-few calendar b r k w t =

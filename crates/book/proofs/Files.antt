@@ -1,12 +1,12 @@
 -- A list of files in rising premise numbers: the file of a premise found, put in and taken out. Assumes nothing.
-use Prim.Native.Nat.{ℕ, suc, _≤_, _<_}
+use Prim.Native.Nat.{ℕ, zero, suc, _≤_, _<_}
 use mathlib.Core.Path.{_≡_, refl, ap, sym, _∙_}
 use mathlib.Core.List.{List, [], _∷_}
 use mathlib.Core.Option.{none, some}
 use mathlib.Core.Bool.{Bool, true, false, cond}
 use native.Mathlib.Omega.{arith}
 use lib.Dec.{eqb, ltb}
-use lib.ListN.{length}
+use lib.ListN.{length, getD, set}
 use borrow.Author.Tests.{eqb-true, eqb-false, ltb-true, ltb-false, eq-eqb, ne-eqb, lt-ltb, le-ltb}
 use Rattle.lists.specs.Search.{Each}
 use Rattle.lists.proofs.TestLaws.{and-left, and-right}
@@ -61,7 +61,7 @@ found-has Has premise (g ∷ gs) u = go (eqb (g .premise) premise) refl (found-h
 
 -- ---- put in
 module _ (f g : File) (gs : List File) where
-  put-before : f .premise < g .premise → putIn f (g ∷ gs) ≡ f ∷ g ∷ gs
+  pub put-before : f .premise < g .premise → putIn f (g ∷ gs) ≡ f ∷ g ∷ gs
   unfolding putIn
   put-before h = rw (lt-ltb (f .premise) (g .premise) h)
 
@@ -137,6 +137,27 @@ put-held n f h (g ∷ gs) r e =
     let z : _≡_ {A = ℕ} 0 1 = cc in absurd (omega arith))
     (λ k. refl)
     (λ k. ap suc (put-held (g .premise) f h gs (r .1) (sym (found-tail (f .premise) g gs (omega arith)) ∙ e)))
+
+-- ---- by place: the file at a place is the one that its number finds, and one with its number is put in there
+module _ (d : File) where
+  rising-at : (n : ℕ) (gs : List File) → Rising n gs → (i : ℕ) → i < length gs → n < getD gs i d .premise
+  rising-at n [] r i h = absurd (omega arith)
+  rising-at n (g ∷ gs) r zero h = r .0
+  rising-at n (g ∷ gs) r (suc i) h = omega (arith, r .0, rising-at (g .premise) gs (r .1) i (omega arith))
+
+  pub found-at : (premise n : ℕ) (gs : List File) → Rising n gs → (i : ℕ) → i < length gs → getD gs i d .premise ≡ premise → fileFor premise gs ≡ some (getD gs i d)
+  found-at premise n [] r i h e = absurd (omega arith)
+  found-at premise n (g ∷ gs) r zero h e = found-head premise g gs e
+  found-at premise n (g ∷ gs) r (suc i) h e =
+      let below = rising-at (g .premise) gs (r .1) i (omega arith) in
+      found-tail premise g gs (λ q. omega (arith, q, e, below)) ∙ found-at premise (g .premise) gs (r .1) i (omega arith) e
+
+  pub put-at : (f : File) (n : ℕ) (gs : List File) → Rising n gs → (i : ℕ) → i < length gs → getD gs i d .premise ≡ f .premise → putIn f gs ≡ set gs i f
+  put-at f n [] r i h e = absurd (omega arith)
+  put-at f n (g ∷ gs) r zero h e = put-over f g gs (sym e)
+  put-at f n (g ∷ gs) r (suc i) h e =
+      let below = rising-at (g .premise) gs (r .1) i (omega arith) in
+      put-after f g gs (omega (arith, e, below)) ∙ ap (λ (l : List File). g ∷ l) (put-at f (g .premise) gs (r .1) i (omega arith) e)
 
 -- ---- taken out
 module _ (premise : ℕ) (g : File) (gs : List File) where

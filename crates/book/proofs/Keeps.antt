@@ -24,15 +24,15 @@ use Rattle.premise.specs.Refusals.{number, firstRow}
 use Rattle.premise.specs.OnePremise.{step, marked}
 use Rattle.premise.specs.Laws.{Held, KeptFor}
 use Rattle.premise.proofs.KeptSteps.{step-keeps}
-use Rattle.premise.proofs.Answers.{only-create-makes}
+use Rattle.premise.proofs.Answers.{only-create-makes, holds}
 use Rattle.book.specs.declared.Book.{Book}
 use Rattle.book.specs.Book.{mostFiles, filesOf, bookKept, fileFor, putIn, withFile}
-use Rattle.book.specs.Calls.{recordRows, callRows, markedFiles, premiseState, Result, onMark, onPremise, onReading, call}
+use Rattle.book.specs.Calls.{recordRows, callRows, markedFiles, premiseState, Result, onPremise, onReading, call, markedBook}
 use Rattle.book.specs.Laws.{BookKept, CallKeeps}
 use Rattle.book.proofs.Files.{found-has, put-length, put-held, taken-length, rises-rising, rising-rises}
 use Rattle.book.proofs.SameFiles.{Numbered, with-rising, with-each}
 use Rattle.book.proofs.Kept.{kept-of, count-is, book-kept-means}
-use Rattle.book.proofs.Rows.{Passed, holds, passed, not-malformed, not-full}
+use Rattle.book.proofs.Rows.{Passed, passed, not-malformed, not-full}
 use Rattle.book.proofs.Marks.{marked-each, marked-rising}
 
 -- a record of another kind than 10 has a premise's number
@@ -61,11 +61,11 @@ module _ (b : Book) (k : BookKept b) where
       go (some f) h = record { number = h .0; kept = h .1 }
 
   few : length (filesOf b) ≤ mostFiles
-  few = omega (arith, k .few, count-is b k)
+  few = omega (arith, k .tidy .few, count-is b (k .tidy))
 
   module _ (calendar : List ℕ) (r : Record) where
     -- ---- a day mark
-    pub mark-kept : r .day ≤ lastDay → bookKept (onMark calendar b r .book) ≡ true
+    pub mark-kept : r .day ≤ lastDay → bookKept (markedBook calendar b (r .day) .book) ≡ true
     mark-kept day =
         kept-of (r .day) (markedFiles calendar (r .day) (filesOf b)) day
         (rw (length-map (filesOf b) (λ (f : File). marked calendar (r .day) f .file)) few)
@@ -106,7 +106,7 @@ module _ (b : Book) (k : BookKept b) where
 -- What holds of the book as it was, and of what each kind of record that is accepted does, holds of what a call does.
 pub by-call : (P : Result → Type 0) (calendar : List ℕ) (b : Book) (bytes lent : List ℕ)
     → P (record { answer = firstRow (callRows calendar b bytes lent); notices = []; book = b })
-    → ((r : Record) → Passed calendar b bytes lent → wellFormed r ≡ true → is kindDayMark r ≡ true → P (onMark calendar b r))
+    → ((r : Record) → Passed calendar b bytes lent → wellFormed r ≡ true → is kindDayMark r ≡ true → P (markedBook calendar b (r .day)))
     → ((r : Record) → Passed calendar b bytes lent → wellFormed r ≡ true → is kindDayMark r ≡ false → (is kindCreate r && eqb (length (filesOf b)) mostFiles) ≡ false → P (onPremise calendar b r))
     → P (call calendar b bytes lent)
 unfolding call
@@ -119,7 +119,7 @@ by-call P calendar b bytes lent refused mark other =
     go p Malformed e n = absurd (not-malformed calendar b n)
     go p (Says r) e n =
         let w = says bytes r e .formed in
-        by-test P (is kindDayMark r) (onMark calendar b r) (onPremise calendar b r) (λ t. mark r p w t) (λ t. other r p w t (not-full calendar b r n))
+        by-test P (is kindDayMark r) (markedBook calendar b (r .day)) (onPremise calendar b r) (λ t. mark r p w t) (λ t. other r p w t (not-full calendar b r n))
 
 pub call-keeps : CallKeeps
 call-keeps calendar b bytes lent e =

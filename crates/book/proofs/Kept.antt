@@ -1,12 +1,12 @@
 -- A well-kept book: the test and the facts behind it say the same, and a book is made of its day and its files. Assumes nothing.
-use Prim.Native.Nat.{ℕ, zero, suc, _-_, _≤_, min}
+use Prim.Native.Nat.{ℕ, zero, suc, _-_, _≤_, _<_, min}
 use mathlib.Core.Path.{_≡_, refl, ap, sym, _∙_}
 use mathlib.Core.List.{List, [], _∷_, _++_}
 use mathlib.Core.Bool.{Bool, true}
 use native.Mathlib.Omega.{arith}
 use lib.Dec.{eqb, leb}
-use lib.ListN.{length, drop, replicate, length-append, length-drop, length-replicate, take-append-drop}
-use lib.Seq.{take-at, drop-at, length-take-le}
+use lib.ListN.{length, drop, set, replicate, length-append, length-drop, length-replicate, length-set, take-append-drop}
+use lib.Seq.{take-at, drop-at, length-take-le, set-append-left}
 use borrow.Author.Tests.{eqb-true, leb-true, eq-eqb, le-leb}
 use Rattle.lists.specs.Search.{allOf, Each}
 use Rattle.lists.proofs.TestLaws.{and-left, and-right, pass-each}
@@ -18,7 +18,7 @@ use Rattle.premise.proofs.Blank.{blank-means}
 use Rattle.premise.proofs.KeptFiles.{kept-means}
 use Rattle.book.specs.declared.Book.{Book}
 use Rattle.book.specs.Book.{mostFiles, filesOf, bookOf, risesFrom, bookKept}
-use Rattle.book.specs.Laws.{BookKept, BookKeptMeans, HoldsItsFiles, FreshKept}
+use Rattle.book.specs.Laws.{TidyBook, BookKept, BookKeptMeans, HoldsItsFiles, FreshKept, withFileAt}
 
 -- ---- every file of a list
 each-kept : (fs : List File) → allOf fileKept fs ≡ true → Each FileKept fs
@@ -69,11 +69,10 @@ kept-facts b e =
     let t = pass-each day (few ∷ long ∷ kept ∷ rising ∷ unused ∷ []) e in
     let within = leb-true (b .count) mostFiles (t .1 .0) in
     record {
+      tidy = record { few = within; whole = whole b within (eqb-true (length (b .files)) mostFiles (t .1 .1 .0)) (t .1 .1 .1 .1 .1 .0) };
       today = leb-true (b .today) lastDay (t .0);
-      few = within;
       files = each-kept (filesOf b) (t .1 .1 .1 .0);
       rising = t .1 .1 .1 .1 .0;
-      whole = whole b within (eqb-true (length (b .files)) mostFiles (t .1 .1 .0)) (t .1 .1 .1 .1 .1 .0);
     }
 
 -- a day, and at most 64 files that are well kept and rise, make a well-kept book
@@ -97,11 +96,24 @@ unfolding bookOf
 counted today fs = refl
 
 -- the count is the number of files
-pub count-is : (b : Book) → BookKept b → length (filesOf b) ≡ b .count
-count-is b k = sym (ap (λ (x : Book). x .count) (k .whole) ∙ counted (b .today) (filesOf b))
+pub count-is : (b : Book) → TidyBook b → length (filesOf b) ≡ b .count
+count-is b tidy = sym (ap (λ (x : Book). x .count) (tidy .whole) ∙ counted (b .today) (filesOf b))
+
+-- another file at a place
+pub stored : (b : Book) → TidyBook b → (at : ℕ) (g : File) → at < b .count → bookOf (b .today) (set (filesOf b) at g) ≡ withFileAt b at g
+unfolding bookOf
+stored b tidy at g h =
+    let rest : ℕ → List File = (λ n. replicate (mostFiles - n) blankFile) in
+    let same = length-set (filesOf b) at g in
+    let files : b .files ≡ filesOf b ++ rest (length (filesOf b)) = ap (λ (x : Book). x .files) (tidy .whole) in
+    let e : set (filesOf b) at g ++ rest (length (set (filesOf b) at g)) ≡ set (b .files) at g =
+    ap (λ (n : ℕ). set (filesOf b) at g ++ rest n) same
+    ∙ sym (set-append-left (filesOf b) (rest (length (filesOf b))) at g (omega (arith, h, count-is b tidy)))
+    ∙ ap (λ (l : List File). set l at g) (sym files) in
+    λ i. record { today = b .today; count = (same ∙ count-is b tidy) i; files = e i }
 
 facts-kept : (b : Book) → BookKept b → bookKept b ≡ true
-facts-kept b k = ap bookKept (k .whole) ∙ kept-of (b .today) (filesOf b) (k .today) (omega (arith, k .few, count-is b k)) (k .files) (k .rising)
+facts-kept b k = ap bookKept (k .tidy .whole) ∙ kept-of (b .today) (filesOf b) (k .today) (omega (arith, k .tidy .few, count-is b (k .tidy))) (k .files) (k .rising)
 
 pub book-kept-means : BookKeptMeans
 book-kept-means b = (kept-facts b, facts-kept b)

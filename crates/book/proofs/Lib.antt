@@ -7,6 +7,7 @@ pub mod Keeps
 pub mod Few
 pub mod Emits
 pub mod Demand1
+pub mod Row6
 pub mod Picks
 pub mod Acts
 pub mod OnHeld

@@ -1,77 +1,37 @@
 -- A record of kinds 3 to 9 on a premise whose file stands at a place of a well-kept book: the call is the one-premise rules' step on that
 -- file, and stores the file that is left at that place. Assumes nothing.
-use Prim.Native.Nat.{ℕ, zero, suc, _-_, _≤_, _<_}
-use mathlib.Core.Path.{_≡_, refl, sym, ap, subst, _∙_}
-use mathlib.Core.List.{List, [], _∷_, _++_, map}
+use Prim.Native.Nat.{ℕ, _≤_, _<_}
+use mathlib.Core.Path.{_≡_, sym, ap, subst, _∙_}
+use mathlib.Core.List.{List}
 use mathlib.Core.Option.{Option, some}
-use mathlib.Core.Bool.{Bool, false, cond, not, _&&_, and-false}
+use mathlib.Core.Bool.{Bool, false, cond}
 use native.Mathlib.Omega.{arith}
-use lib.Dec.{eqb}
-use lib.ListN.{length, getD, set, replicate, length-set}
-use lib.Seq.{getD-take, set-append-left}
+use lib.ListN.{length, getD}
+use lib.Seq.{getD-take, map-set-same}
 use borrow.Author.Tests.{ne-eqb}
 use Rattle.records.specs.declared.Record.{Record}
 use Rattle.records.specs.declared.Reading.the-variants.{Says}
-use Rattle.records.specs.Records.{reading, kindCreate, kindDayMark}
+use Rattle.records.specs.Records.{reading, kindDayMark}
 use Rattle.records.proofs.Readings.{says}
 use Rattle.premise.specs.declared.File.{File}
-use Rattle.premise.specs.Orders.{blankFile}
 use Rattle.premise.specs.Steps.{is}
-use Rattle.premise.specs.Refusals.{isHeld}
 use Rattle.premise.specs.OnePremise.{Given, step}
 use Rattle.premise.specs.Laws.{Held, KeptFor}
 use Rattle.book.specs.declared.Book.{Book}
-use Rattle.book.specs.Book.{mostFiles, filesOf, bookOf, bookKept, fileFor, putIn, withFile}
-use Rattle.book.specs.Calls.{noticeBytes, premiseState, Result, call}
-use Rattle.book.specs.Laws.{BookKept, OnHeld, givenAt, withFileAt, numbersOf, CallOnHeld}
-use Rattle.book.specs.Demand3.{meetsRow6}
-use Rattle.book.proofs.Files.{Rising, rises-rising, found-head, found-tail, put-over, put-after}
-use Rattle.book.proofs.Kept.{count-is, book-kept-means}
+use Rattle.book.specs.Book.{filesOf, bookOf, bookKept, fileFor, putIn, withFile}
+use Rattle.book.specs.Calls.{noticeBytes, premiseState, Result, call, meetsRow6, onDayMark, asOne, inBook, givenOn}
+use Rattle.book.specs.Laws.{BookKept, OnHeld, withFileAt, numbersOf, CallOnHeld}
+use Rattle.book.proofs.Files.{Rising, rises-rising, found-at, put-at}
+use Rattle.book.proofs.Kept.{count-is, stored, book-kept-means}
 use Rattle.book.proofs.Keeps.{step-kept-file, call-keeps}
-use Rattle.book.proofs.Acts.{asMark, asOne, acted, call-acts}
-
--- ---- files in rising premise numbers: the one at a place is the one that its number finds, and one with its number is put in there
-module _ (d : File) where
-  rising-at : (n : ℕ) (fs : List File) → Rising n fs → (i : ℕ) → i < length fs → n < getD fs i d .premise
-  rising-at n [] r i h = absurd (omega arith)
-  rising-at n (f ∷ fs) r zero h = r .0
-  rising-at n (f ∷ fs) r (suc i) h = omega (arith, r .0, rising-at (f .premise) fs (r .1) i (omega arith))
-
-  found-at : (n : ℕ) (fs : List File) → Rising n fs → (i : ℕ) → i < length fs → fileFor (getD fs i d .premise) fs ≡ some (getD fs i d)
-  found-at n [] r i h = absurd (omega arith)
-  found-at n (f ∷ fs) r zero h = found-head (f .premise) f fs refl
-  found-at n (f ∷ fs) r (suc i) h =
-      let below = rising-at (f .premise) fs (r .1) i (omega arith) in
-      found-tail (getD fs i d .premise) f fs (λ e. omega (arith, e, below)) ∙ found-at (f .premise) fs (r .1) i (omega arith)
-
-  put-at : (g : File) (n : ℕ) (fs : List File) → Rising n fs → (i : ℕ) → i < length fs → getD fs i d .premise ≡ g .premise → putIn g fs ≡ set fs i g
-  put-at g n [] r i h e = absurd (omega arith)
-  put-at g n (f ∷ fs) r zero h e = put-over g f fs (sym e)
-  put-at g n (f ∷ fs) r (suc i) h e =
-      let below = rising-at (f .premise) fs (r .1) i (omega arith) in
-      put-after g f fs (omega (arith, e, below)) ∙ ap (λ (l : List File). f ∷ l) (put-at g (f .premise) fs (r .1) i (omega arith) e)
-
--- a part that the new element has in common with the old one
-pub map-set-same : {X Y : Type 0} (part : X → Y) (d : X) (l : List X) (i : ℕ) (x : X) → part x ≡ part (getD l i d) → map part (set l i x) ≡ map part l
-map-set-same part d [] i x e = refl
-map-set-same part d (y ∷ ys) zero x e = ap (λ (z : _). z ∷ map part ys) e
-map-set-same part d (y ∷ ys) (suc i) x e = ap (λ (l : List _). part y ∷ l) (map-set-same part d ys i x e)
-
--- ---- a book with another file at a place
-stored : (b : Book) → BookKept b → (at : ℕ) (g : File) → at < b .count → bookOf (b .today) (set (filesOf b) at g) ≡ withFileAt b at g
-unfolding bookOf
-stored b k at g h =
-    let rest : ℕ → List File = (λ n. replicate (mostFiles - n) blankFile) in
-    let same = length-set (filesOf b) at g in
-    let files : b .files ≡ filesOf b ++ rest (length (filesOf b)) = ap (λ (x : Book). x .files) (k .whole) in
-    let e : set (filesOf b) at g ++ rest (length (set (filesOf b) at g)) ≡ set (b .files) at g =
-    ap (λ (n : ℕ). set (filesOf b) at g ++ rest n) same
-    ∙ sym (set-append-left (filesOf b) (rest (length (filesOf b))) at g (omega (arith, h, count-is b k)))
-    ∙ ap (λ (l : List File). set l at g) (sym files) in
-    λ i. record { today = b .today; count = (same ∙ count-is b k) i; files = e i }
+use Rattle.book.proofs.Acts.{acted, call-acts}
+use Rattle.book.proofs.Rows.{not-new}
 
 module _ (calendar : List ℕ) (b : Book) (bytes lent : List ℕ) (r : Record) (at : ℕ) (past g : File) (k : BookKept b) (room : noticeBytes ≤ length lent)
-    (e : reading bytes ≡ Says r) (h : OnHeld b at past r) (left : givenAt calendar b at past r .state .file ≡ some g) where
+    (e : reading bytes ≡ Says r) (h : OnHeld b at past r) (left : givenOn calendar (b .today) (some (getD (b .files) at past)) r .state .file ≡ some g) where
+  abbrev ruled : Given
+  ruled = givenOn calendar (b .today) (some (getD (b .files) at past)) r
+
   not-mark : is kindDayMark r ≡ false
   not-mark = ne-eqb (r .kind) kindDayMark (λ q. omega (arith, q, h .upto))
 
@@ -79,7 +39,7 @@ module _ (calendar : List ℕ) (b : Book) (bytes lent : List ℕ) (r : Record) (
   rising = rises-rising 0 (filesOf b) (k .rising)
 
   inside : at < length (filesOf b)
-  inside = omega (arith, h .within, count-is b k)
+  inside = omega (arith, h .within, count-is b (k .tidy))
 
   -- the file at the place is the premise's
   read-there : getD (filesOf b) at past ≡ getD (b .files) at past
@@ -89,37 +49,31 @@ module _ (calendar : List ℕ) (b : Book) (bytes lent : List ℕ) (r : Record) (
   own = ap (λ (f : File). f .premise) read-there ∙ h .own
 
   found : fileFor (r .premise) (filesOf b) ≡ some (getD (b .files) at past)
-  found = ap (λ (n : ℕ). fileFor n (filesOf b)) (sym own) ∙ found-at past 0 (filesOf b) rising at inside ∙ ap some read-there
+  found = found-at past (r .premise) 0 (filesOf b) rising at inside own ∙ ap some read-there
 
-  given : step calendar (premiseState b (r .premise)) r ≡ givenAt calendar b at past r
-  given = ap (λ (x : Option File). step calendar (record { today = b .today; file = x }) r) found
-
-  -- so that the call does not meet row 6
-  not-new : meetsRow6 b (Says r) ≡ false
-  not-new =
-      ap (λ (x : Option File). is kindCreate r && not (isHeld x) && eqb (length (filesOf b)) mostFiles) found
-      ∙ ap (λ (a : Bool). a && eqb (length (filesOf b)) mostFiles) (and-false (is kindCreate r))
+  given : step calendar (premiseState b (r .premise)) r ≡ ruled
+  given = ap (λ (x : Option File). givenOn calendar (b .today) x r) found
 
   kept-file : KeptFor (r .premise) g
   kept-file = subst (Held (KeptFor (r .premise))) (ap (λ (x : Given). x .state .file) given ∙ left) (step-kept-file b k calendar r (says bytes r e .formed))
 
   -- it is put in over the old one
   put-there : bookOf (b .today) (putIn g (filesOf b)) ≡ withFileAt b at g
-  put-there = ap (bookOf (b .today)) (put-at past g 0 (filesOf b) rising at inside (own ∙ sym (kept-file .number))) ∙ stored b k at g (h .within)
+  put-there = ap (bookOf (b .today)) (put-at past g 0 (filesOf b) rising at inside (own ∙ sym (kept-file .number))) ∙ stored b (k .tidy) at g (h .within)
 
   abbrev Expected : Result
-  Expected = record { answer = givenAt calendar b at past r .answer; notices = givenAt calendar b at past r .notices; book = withFileAt b at g }
+  Expected = record { answer = ruled .answer; notices = ruled .notices; book = withFileAt b at g }
 
   result : call calendar b bytes lent ≡ Expected
   result =
-      call-acts calendar b bytes lent k room (ap (meetsRow6 b) e ∙ not-new) ∙ ap (acted calendar b) e
-      ∙ ap (λ (a : Bool). cond a (asMark calendar b r) (asOne calendar b r)) not-mark
-      ∙ ap {B = Result} (λ (x : Given). record { answer = x .answer; notices = x .notices; book = bookOf (b .today) (withFile (r .premise) (x .state .file) (filesOf b)) }) given
-      ∙ ap {B = Result} (λ (c : Book). record { answer = givenAt calendar b at past r .answer; notices = givenAt calendar b at past r .notices; book = c })
+      call-acts calendar b bytes lent k room (ap (meetsRow6 b) e ∙ not-new b r (getD (b .files) at past) found) ∙ ap (acted calendar b) e
+      ∙ ap (λ (a : Bool). cond a (onDayMark calendar b r) (asOne calendar b r)) not-mark
+      ∙ ap (inBook b (r .premise)) given
+      ∙ ap {B = Result} (λ (c : Book). record { answer = ruled .answer; notices = ruled .notices; book = c })
       (ap (λ (x : Option File). bookOf (b .today) (withFile (r .premise) x (filesOf b))) left ∙ put-there)
 
   numbers : numbersOf (withFileAt b at g) ≡ numbersOf b
-  numbers = map-set-same (λ (f : File). f .premise) past (b .files) at g (kept-file .number ∙ sym (h .own))
+  numbers = map-set-same (λ (f : File). f .premise) (b .files) at g past (kept-file .number ∙ sym (h .own))
 
 pub call-on-held : CallOnHeld
 call-on-held calendar b bytes lent r at past g well room e h left =

@@ -19,14 +19,14 @@ use Rattle.premise.specs.OnePremise.{step}
 use Rattle.premise.specs.Laws.{Held, KeptFor}
 use Rattle.book.specs.declared.Book.{Book}
 use Rattle.book.specs.Book.{filesOf, bookOf, withFile}
-use Rattle.book.specs.Calls.{premiseState, markedFiles, onMark, refusal}
+use Rattle.book.specs.Calls.{premiseState, markedFiles, refusal, onDayMark, asOne, markedBook}
 use Rattle.book.specs.Laws.{BookKept}
 use Rattle.book.specs.Demand3.{Premise}
 use Rattle.book.proofs.SameFiles.{with-each}
 use Rattle.book.proofs.Kept.{holds-its-files}
 use Rattle.book.proofs.Marks.{marked-numbers}
 use Rattle.book.proofs.Keeps.{has-premise, step-kept-file}
-use Rattle.book.proofs.Acts.{asOne, asMark, acted}
+use Rattle.book.proofs.Acts.{acted}
 
 -- ---- a book on the way: well kept, and every premise number in range
 abbrev pub InRange : List File → Type 0
@@ -73,10 +73,10 @@ module _ (calendar : List ℕ) (b : Book) (k : OnWay b) where
       go none h = tt
       go (some f) h = rw (h .number) (s .ranged t)
 
-  ranged-mark : (r : Record) → InRange (filesOf (asMark calendar b r .book))
+  ranged-mark : (r : Record) → InRange (filesOf (onDayMark calendar b r .book))
   ranged-mark r = go (eqb (r .day) (b .today + 1))
     where
-      go : (next : Bool) → InRange (filesOf (cond next (onMark calendar b r) (refusal NotNextDay b) .book))
+      go : (next : Bool) → InRange (filesOf (cond next (markedBook calendar b (r .day)) (refusal NotNextDay b) .book))
       go true = ranged-of (r .day) (markedFiles calendar (r .day) (filesOf b)) (marked-numbers calendar (r .day) Premise (filesOf b) (k .kept .files) (k .ranged))
       go false = k .ranged
 
@@ -84,6 +84,6 @@ module _ (calendar : List ℕ) (b : Book) (k : OnWay b) where
   ranged-acted Malformed s = k .ranged
   ranged-acted (Says r) s = go (is kindDayMark r) refl
     where
-      go : (mark : Bool) → is kindDayMark r ≡ mark → InRange (filesOf (cond mark (asMark calendar b r) (asOne calendar b r) .book))
+      go : (mark : Bool) → is kindDayMark r ≡ mark → InRange (filesOf (cond mark (onDayMark calendar b r) (asOne calendar b r) .book))
       go true t = ranged-mark r
       go false t = ranged-one r s t

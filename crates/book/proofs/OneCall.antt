@@ -21,7 +21,7 @@ use Rattle.premise.proofs.Answers.{only-marks-move, mark-step}
 use Rattle.premise.proofs.Notices.{step-notices}
 use Rattle.book.specs.declared.Book.{Book}
 use Rattle.book.specs.Book.{filesOf, bookOf, fileFor, withFile}
-use Rattle.book.specs.Calls.{premiseState, markedFiles, Result, onMark, refusal}
+use Rattle.book.specs.Calls.{premiseState, markedFiles, Result, refusal, onDayMark, asOne, markedBook}
 use Rattle.book.specs.Demand3.{concerns, said, withPremise, ruledAnswers, ruledNotices}
 use Rattle.book.proofs.Files.{Rising, rises-rising}
 use Rattle.book.proofs.SameFiles.{Numbered, with-found, with-others}
@@ -29,7 +29,7 @@ use Rattle.book.proofs.Kept.{holds-its-files}
 use Rattle.book.proofs.Marks.{marked-state}
 use Rattle.book.proofs.Keeps.{numbers, found-kept, step-kept-file}
 use Rattle.book.proofs.Picks.{pick-own, pick-other, pick-marked}
-use Rattle.book.proofs.Acts.{asOne, asMark, acted, marked-accepted}
+use Rattle.book.proofs.Acts.{acted, marked-accepted}
 use Rattle.book.proofs.OnWay.{OnWay, Sound, SoundIn}
 
 -- what a premise has in a book that is made of files
@@ -63,11 +63,11 @@ module _ (calendar : List ℕ) (b : Book) (k : OnWay b) where
   rising = rises-rising 0 (filesOf b) (k .kept .rising)
 
   -- ---- a day mark
-  given-mark : (premise : ℕ) (r : Record) → is kindDayMark r ≡ true → AsGiven premise (asMark calendar b r) (step calendar (premiseState b premise) r)
+  given-mark : (premise : ℕ) (r : Record) → is kindDayMark r ≡ true → AsGiven premise (onDayMark calendar b r) (step calendar (premiseState b premise) r)
   given-mark premise r t = rw (mark-step calendar (premiseState b premise) r t) (go (eqb (r .day) (b .today + 1)))
     where
       go : (next : Bool)
-          → AsGiven premise (cond next (onMark calendar b r) (refusal NotNextDay b)) (cond next (markedOr calendar (r .day) (fileFor premise (filesOf b))) (refused NotNextDay (premiseState b premise)))
+          → AsGiven premise (cond next (markedBook calendar b (r .day)) (refusal NotNextDay b)) (cond next (markedOr calendar (r .day) (fileFor premise (filesOf b))) (refused NotNextDay (premiseState b premise)))
       go true = record {
         state = state-of (r .day) premise (markedFiles calendar (r .day) (filesOf b)) ∙ marked-state calendar (r .day) premise (filesOf b) (k .kept .files);
         answered = ap number (sym (marked-accepted calendar (r .day) (fileFor premise (filesOf b))));

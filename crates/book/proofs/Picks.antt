@@ -1,7 +1,7 @@
 -- The notices of one premise among those in a buffer: they are found by the number in their bytes. Assumes nothing.
 use Prim.Native.Nat.{ℕ}
 use mathlib.Core.Path.{_≡_, refl, ap, ap₂, sym, _∙_}
-use mathlib.Core.List.{List, [], _∷_, _++_, map, append-nil}
+use mathlib.Core.List.{List, [], _∷_, _++_, map, map-append, append-nil}
 use mathlib.Core.Bool.{Bool, true, false, cond}
 use native.Mathlib.Omega.{arith}
 use lib.Dec.{eqb}
@@ -43,17 +43,13 @@ pick-other premise other [] d i u = refl
 pick-other premise other (n ∷ ns) d i u =
     rw (ne-eqb (fieldOf premiseField (encode n)) premise (λ e. d (sym (number-in other n i (u .0)) ∙ e)), pick-other premise other ns d i (u .1))
 
-map-append : (a b : List Notice) → map encode (a ++ b) ≡ map encode a ++ map encode b
-map-append [] b = refl
-map-append (n ∷ a) b = ap (λ (l : List (List ℕ)). encode n ∷ l) (map-append a b)
-
 -- of all the notices of a day mark, those of a premise are those of its file
 module _ (calendar : List ℕ) (day : ℕ) where
   first-and-rest : (premise : ℕ) (f : File) (fs : List File)
       → withPremise premise (map encode (markedNotices calendar day (f ∷ fs)))
       ≡ withPremise premise (map encode (marked calendar day f .notices)) ++ withPremise premise (map encode (markedNotices calendar day fs))
   first-and-rest premise f fs =
-      ap (withPremise premise) (map-append (marked calendar day f .notices) (markedNotices calendar day fs))
+      ap (withPremise premise) (map-append encode (marked calendar day f .notices) (markedNotices calendar day fs))
       ∙ pick-append premise (map encode (marked calendar day f .notices)) (map encode (markedNotices calendar day fs))
 
   pub pick-marked : (premise n : ℕ) (fs : List File) → Rising n fs → Each (λ f. Premise (f .premise)) fs

@@ -1,15 +1,15 @@
 -- The table of a call: its first row is acceptance exactly where none holds, and with rows 1, 2 and 6 out of the way it is the table
 -- of the one-premise rules. Assumes nothing.
 use Prim.Native.Nat.{ℕ, _≤_}
-use mathlib.Core.Path.{_≡_, refl, sym, _∙_}
+use mathlib.Core.Path.{_≡_, refl, sym, _∙_, ap}
 use mathlib.Core.Logic.{_↔_}
 use mathlib.Core.List.{List, [], _∷_, _++_}
 use mathlib.Core.Option.{Option, none, some}
-use mathlib.Core.Bool.{Bool, true, false, cond, not, _&&_, _||_, false≢true}
-use native.Mathlib.Omega.{arith}
+use mathlib.Core.Bool.{Bool, true, false, cond, not, _&&_, _||_, false≢true, and-false}
 use lib.Dec.{eqb, ltb}
 use lib.ListN.{length}
 use borrow.Author.Tests.{le-ltb, ltb-false, not-false}
+use denote.Enum.Declared.{tagOf}
 use Rattle.lists.specs.Search.{anyOf}
 use Rattle.lists.proofs.TestLaws.{or-left, or-right}
 use Rattle.records.specs.declared.Record.{Record}
@@ -18,42 +18,29 @@ use Rattle.records.specs.declared.Reading.the-variants.{Malformed, Says}
 use Rattle.records.specs.Records.{reading, kindCreate}
 use Rattle.premise.specs.declared.File.{File}
 use Rattle.premise.specs.declared.Answer.{Answer}
-use Rattle.premise.specs.declared.Answer.the-variants.{Accepted, ShortBuffer, NotWellKept, MalformedRecord, NoSuchPremise, BookFull, NotNextDay}
+use Rattle.premise.specs.declared.Answer.the-variants.{Accepted, ShortBuffer, NotWellKept, MalformedRecord, BookFull}
 use Rattle.premise.specs.Steps.{is}
 use Rattle.premise.specs.Refusals.{Row, row, firstRow, number, isHeld, ordersOf, premiseRows, orderRows, rows}
-use Rattle.premise.proofs.Answers.{first-row-skips, answer-is-first-row, zero-where-no-row}
+use Rattle.premise.proofs.Answers.{first-row-skips, answer-is-first-row, zero-where-no-row, holds}
 use Rattle.premise.proofs.Table.{accepted-is-zero, create-held}
+use Rattle.premise.proofs.Answer.{the-type}
 use Rattle.book.specs.declared.Book.{Book}
 use Rattle.book.specs.Book.{mostFiles, filesOf, bookKept, fileFor}
-use Rattle.book.specs.Calls.{noticeBytes, recordRows, callRows, premiseState}
-use Rattle.book.specs.Demand3.{meetsRow6}
+use Rattle.book.specs.Calls.{noticeBytes, recordRows, callRows, premiseState, meetsRow6}
 
 -- ---- which answers refuse
 abbrev pub Refuses : Answer → Type 0
 Refuses answer = number answer ≡ 0 → ⊥
 
-short-refuses : Refuses ShortBuffer
-short-refuses e = let a = accepted-is-zero ShortBuffer .0 e in let z : _≡_ {A = ℕ} 0 1 = cc in omega arith
+-- whether it is acceptance, the first of the answers
+abbrev accepts : Answer → Bool
+accepts answer = eqb (tagOf the-type answer) 0
 
-unkept-refuses : Refuses NotWellKept
-unkept-refuses e = let a = accepted-is-zero NotWellKept .0 e in let z : _≡_ {A = ℕ} 0 1 = cc in omega arith
-
-pub malformed-refuses : Refuses MalformedRecord
-malformed-refuses e = let a = accepted-is-zero MalformedRecord .0 e in let z : _≡_ {A = ℕ} 0 1 = cc in omega arith
-
-pub not-held-refuses : Refuses NoSuchPremise
-not-held-refuses e = let a = accepted-is-zero NoSuchPremise .0 e in let z : _≡_ {A = ℕ} 0 1 = cc in omega arith
-
-full-refuses : Refuses BookFull
-full-refuses e = let a = accepted-is-zero BookFull .0 e in let z : _≡_ {A = ℕ} 0 1 = cc in omega arith
-
-pub day-refuses : Refuses NotNextDay
-day-refuses e = let a = accepted-is-zero NotNextDay .0 e in let z : _≡_ {A = ℕ} 0 1 = cc in omega arith
+-- every other refuses
+pub refusing : (answer : Answer) → accepts answer ≡ false → Refuses answer
+refusing answer t e = false≢true (sym t ∙ ap accepts (accepted-is-zero answer .0 e))
 
 -- ---- a table whose first row is acceptance exactly where none holds
-abbrev pub holds : Row → Bool
-holds x = x .when
-
 abbrev ExactIf : Bool → Answer → List Row → Type 0
 ExactIf when answer rs = (number (cond when answer (firstRow rs)) ≡ 0) ↔ ((when || anyOf holds rs) ≡ false)
 
@@ -84,6 +71,12 @@ pub record Passed (calendar : List ℕ) (b : Book) (bytes lent : List ℕ) : Typ
   pub kept : bookKept b ≡ true
   pub none : anyOf holds (recordRows calendar b (reading bytes)) ≡ false
 
+-- a record of a premise that is held does not meet row 6
+pub not-new : (b : Book) (r : Record) (f : File) → fileFor (r .premise) (filesOf b) ≡ some f → meetsRow6 b (Says r) ≡ false
+not-new b r f found =
+    ap (λ (x : Option File). is kindCreate r && not (isHeld x) && eqb (length (filesOf b)) mostFiles) found
+    ∙ ap (λ (a : Bool). a && eqb (length (filesOf b)) mostFiles) (and-false (is kindCreate r))
+
 module _ (calendar : List ℕ) (b : Book) where
   -- a record that does not meet row 6 meets the rows of the one-premise rules
   pub rows-of-one : (r : Record) → meetsRow6 b (Says r) ≡ false → firstRow (recordRows calendar b (Says r)) ≡ firstRow (rows calendar (b .today) (fileFor (r .premise) (filesOf b)) r)
@@ -110,12 +103,12 @@ module _ (calendar : List ℕ) (b : Book) where
       none-holds (row MalformedRecord false ∷ premiseRows file r) (row BookFull full) (orderRows calendar (b .today) (ordersOf file) r) e
 
   record-exact : (d : Reading) → Exact (recordRows calendar b d)
-  record-exact Malformed = exact-cons MalformedRecord true [] malformed-refuses ((λ e. refl), (λ e. accepted-is-zero Accepted .1 refl))
+  record-exact Malformed = exact-cons MalformedRecord true [] (refusing MalformedRecord refl) ((λ e. refl), (λ e. accepted-is-zero Accepted .1 refl))
   record-exact (Says r) =
       let file : Option File = fileFor (r .premise) (filesOf b) in
       let law = zero-where-no-row calendar (premiseState b (r .premise)) r in
       let exact : Exact (rows calendar (b .today) file r) = rw (answer-is-first-row calendar (premiseState b (r .premise)) r) at law in
-      exact-insert (premiseRows file r) (orderRows calendar (b .today) (ordersOf file) r) BookFull (is kindCreate r && eqb (length (filesOf b)) mostFiles) full-refuses exact
+      exact-insert (premiseRows file r) (orderRows calendar (b .today) (ordersOf file) r) BookFull (is kindCreate r && eqb (length (filesOf b)) mostFiles) (refusing BookFull refl) exact
 
 module _ (calendar : List ℕ) (b : Book) (bytes lent : List ℕ) where
   -- with a long enough buffer and a well-kept book the first row is one of the record's
@@ -127,8 +120,8 @@ module _ (calendar : List ℕ) (b : Book) (bytes lent : List ℕ) where
   unfolding callRows
   call-exact =
       let rest : List Row = recordRows calendar b (reading bytes) in
-      exact-cons ShortBuffer (ltb (length lent) noticeBytes) (row NotWellKept (not (bookKept b)) ∷ rest) short-refuses
-      (exact-cons NotWellKept (not (bookKept b)) rest unkept-refuses (record-exact calendar b (reading bytes)))
+      exact-cons ShortBuffer (ltb (length lent) noticeBytes) (row NotWellKept (not (bookKept b)) ∷ rest) (refusing ShortBuffer refl)
+      (exact-cons NotWellKept (not (bookKept b)) rest (refusing NotWellKept refl) (record-exact calendar b (reading bytes)))
 
   pub passed : number (firstRow (callRows calendar b bytes lent)) ≡ 0 → Passed calendar b bytes lent
   unfolding callRows

@@ -1,8 +1,9 @@
 -- Document 01, "The book": the record call. The answer is the number of the first row of the table whose condition holds; accepted, a
 -- record does what the one-premise rules say.
-use Prim.Native.Nat.{ℕ}
+use Prim.Native.Nat.{ℕ, _+_}
 use mathlib.Core.List.{List, [], _∷_, _++_, map}
-use mathlib.Core.Bool.{true, false, cond, not, _&&_}
+use mathlib.Core.Bool.{Bool, true, false, cond, not, _&&_}
+use mathlib.Core.Option.{Option}
 use lib.Dec.{eqb, ltb}
 use lib.ListN.{length}
 use Rattle.records.specs.declared.Record.{Record}
@@ -12,10 +13,10 @@ use Rattle.records.specs.declared.Notice.{Notice}
 use Rattle.records.specs.Records.{reading, kindCreate, kindDayMark}
 use Rattle.premise.specs.declared.File.{File}
 use Rattle.premise.specs.declared.Answer.{Answer}
-use Rattle.premise.specs.declared.Answer.the-variants.{Accepted, ShortBuffer, NotWellKept, MalformedRecord, BookFull}
+use Rattle.premise.specs.declared.Answer.the-variants.{Accepted, ShortBuffer, NotWellKept, MalformedRecord, BookFull, NotNextDay}
 use Rattle.premise.specs.Steps.{is}
-use Rattle.premise.specs.Refusals.{Row, row, firstRow, number, ordersOf, premiseRows, orderRows}
-use Rattle.premise.specs.OnePremise.{State, marked, step}
+use Rattle.premise.specs.Refusals.{Row, row, firstRow, number, isHeld, ordersOf, premiseRows, orderRows}
+use Rattle.premise.specs.OnePremise.{State, Given, marked, step}
 use Rattle.book.specs.declared.Book.{Book}
 use Rattle.book.specs.Book.{mostFiles, filesOf, bookOf, bookKept, fileFor, withFile}
 
@@ -40,6 +41,11 @@ callRows calendar b bytes lent =
     ∷ row NotWellKept (not (bookKept b))
     ∷ recordRows calendar b (reading bytes)
 
+-- A well-formed create of a premise that is not held, while 64 files are held, meets row 6. `AnsweredFull` (Laws.antt) ties it to the table.
+abbrev pub meetsRow6 : Book → Reading → Bool
+meetsRow6 b Malformed = false
+meetsRow6 b (Says r) = is kindCreate r && not (isHeld (fileFor (r .premise) (filesOf b))) && eqb (length (filesOf b)) mostFiles
+
 -- ---- what a record does that meets no row
 -- what comes of a call: the answer, the notices, and the book afterwards
 pub record Result : Type 0 where
@@ -55,13 +61,17 @@ abbrev pub markedNotices : List ℕ → ℕ → List File → List Notice
 markedNotices calendar day [] = []
 markedNotices calendar day (f ∷ fs) = marked calendar day f .notices ++ markedNotices calendar day fs
 
-abbrev pub onMark : List ℕ → Book → Record → Result
-onMark calendar b r =
+abbrev pub markedBook : List ℕ → Book → ℕ → Result
+markedBook calendar b day =
     record {
       answer = Accepted;
-      notices = markedNotices calendar (r .day) (filesOf b);
-      book = bookOf (r .day) (markedFiles calendar (r .day) (filesOf b));
+      notices = markedNotices calendar day (filesOf b);
+      book = bookOf day (markedFiles calendar day (filesOf b));
     }
+
+-- what the one-premise rules give on T and a file or none
+abbrev pub givenOn : List ℕ → ℕ → Option File → Record → Given
+givenOn calendar today file r = step calendar (record { today = today; file = file }) r
 
 -- Any other record goes to its premise: the one-premise rules on T and that file or none.
 abbrev pub premiseState : Book → ℕ → State
@@ -77,7 +87,7 @@ onPremise calendar b r =
 
 abbrev pub onReading : List ℕ → Book → Reading → Result
 onReading calendar b Malformed = record { answer = MalformedRecord; notices = []; book = b }
-onReading calendar b (Says r) = cond (is kindDayMark r) (onMark calendar b r) (onPremise calendar b r)
+onReading calendar b (Says r) = cond (is kindDayMark r) (markedBook calendar b (r .day)) (onPremise calendar b r)
 
 -- ---- the call
 -- A refusal returns its number and zero notices; book and buffer stay.
@@ -89,3 +99,21 @@ call calendar b bytes lent =
     cond (eqb (number (firstRow (callRows calendar b bytes lent))) 0)
     (onReading calendar b (reading bytes))
     (refusal (firstRow (callRows calendar b bytes lent)) b)
+
+-- ---- what a call on a well-kept book comes to, by what its record is
+-- a day mark: row 15, then the mark
+abbrev pub onDayMark : List ℕ → Book → Record → Result
+onDayMark calendar b r = cond (eqb (r .day) (b .today + 1)) (markedBook calendar b (r .day)) (refusal NotNextDay b)
+
+-- what the one-premise rules give, in the book ..
+abbrev pub inBook : Book → ℕ → Given → Result
+inBook b premise given =
+    record {
+      answer = given .answer;
+      notices = given .notices;
+      book = bookOf (b .today) (withFile premise (given .state .file) (filesOf b));
+    }
+
+-- .. on T and the record's premise
+abbrev pub asOne : List ℕ → Book → Record → Result
+asOne calendar b r = inBook b (r .premise) (step calendar (premiseState b (r .premise)) r)

@@ -1,24 +1,24 @@
 -- Demand 3: one statement about a list of record calls as a whole, about what calls returned, tied together by the record call's own
--- promise; proofs/Demand3.antt proves both types below.
+-- promise; proofs/Demand3.antt proves it (`demand-3`).
 use Prim.Native.Nat.{ℕ, _≤_, _<_}
 use mathlib.Core.Path.{_≡_}
 use mathlib.Core.List.{List, [], _∷_, _++_, map}
-use mathlib.Core.Bool.{Bool, true, false, cond, _&&_, not}
+use mathlib.Core.Bool.{Bool, true, false, cond}
 use lib.Dec.{eqb}
 use lib.ListN.{length}
 use Rattle.records.specs.declared.Record.{Record}
 use Rattle.records.specs.declared.Reading.{Reading}
 use Rattle.records.specs.declared.Reading.the-variants.{Malformed, Says}
 use Rattle.records.specs.Layout.{Bytes, premiseField, fieldOf}
-use Rattle.records.specs.Records.{reading, kindCreate, kindDayMark}
+use Rattle.records.specs.Records.{reading, kindDayMark}
 use Rattle.records.specs.Notices.{encode, rows}
 use Rattle.premise.specs.Steps.{is}
-use Rattle.premise.specs.Refusals.{number, isHeld}
+use Rattle.premise.specs.Refusals.{number}
 use Rattle.premise.specs.OnePremise.{Given, startState, runs, endState}
 use Rattle.book.specs.declared.Book.{Book}
 use Rattle.book.specs.declared.Reply.{Reply}
-use Rattle.book.specs.Book.{mostFiles, filesOf, freshBook, fileFor}
-use Rattle.book.specs.Calls.{noticeBytes}
+use Rattle.book.specs.Book.{filesOf, freshBook, fileFor}
+use Rattle.book.specs.Calls.{noticeBytes, meetsRow6}
 use Rattle.book.specs.Promise.{Promised}
 
 -- ---- calls that were made
@@ -40,11 +40,6 @@ lastBook b [] = b
 lastBook b (m ∷ ms) = lastBook (m .reply .book) ms
 
 -- ---- the premises of the theorem
--- a well-formed create of a premise that is not held, while 64 files are held: the call meets row 6
-abbrev pub meetsRow6 : Book → Reading → Bool
-meetsRow6 b Malformed = false
-meetsRow6 b (Says r) = is kindCreate r && not (isHeld (fileFor (r .premise) (filesOf b))) && eqb (length (filesOf b)) mostFiles
-
 -- a record's bytes are bytes; at least 24,576 notice bytes each; none meets row 6
 pub record Allowed (b : Book) (m : Made) : Type 0 where
   pub real : Bytes (m .bytes)
@@ -97,8 +92,7 @@ noticesFor premise (m ∷ ms) = withPremise premise (rows (m .reply .sent) (m .a
 
 -- ---- what the one-premise rules give, from the premise's own records and the day marks alone
 abbrev pub ruledAnswers : List Given → List ℕ
-ruledAnswers [] = []
-ruledAnswers (g ∷ gs) = number (g .answer) ∷ ruledAnswers gs
+ruledAnswers gs = map (λ (g : Given). number (g .answer)) gs
 
 abbrev pub ruledNotices : List Given → List (List ℕ)
 ruledNotices [] = []
@@ -135,3 +129,8 @@ ShuffleProof =
     → Played calendar (freshBook start) ns → AllAllowed (freshBook start) ns
     → ((premise : ℕ) → Premise premise → ownBytes premise ms ≡ ownBytes premise ns)
     → SameBooks start ms ns
+
+-- Demand 3, as one statement.
+pub record Demand3 : Type 0 where
+  pub alone : EachPremiseAlone
+  pub shuffled : ShuffleProof

@@ -1,11 +1,10 @@
 -- What the layers above rely on about the book, as statements; proofs/ proves each.
-use Prim.Native.Nat.{ℕ, _+_, _*_, _≤_, _<_}
+use Prim.Native.Nat.{ℕ, _*_, _≤_, _<_}
 use mathlib.Core.Path.{_≡_}
 use mathlib.Core.Logic.{_↔_}
 use mathlib.Core.List.{List, map}
 use mathlib.Core.Option.{none, some}
-use mathlib.Core.Bool.{true, false, cond}
-use lib.Dec.{eqb}
+use mathlib.Core.Bool.{true, false}
 use lib.ListN.{length, getD, set}
 use Rattle.lists.specs.Search.{Each}
 use Rattle.days.specs.Days.{lastDay}
@@ -14,24 +13,28 @@ use Rattle.records.specs.declared.Reading.the-variants.{Malformed, Says}
 use Rattle.records.specs.Layout.{recordLength}
 use Rattle.records.specs.Records.{kindNewOrder, kindReply, kindDayMark, wellFormed, reading}
 use Rattle.premise.specs.declared.File.{File}
-use Rattle.premise.specs.declared.Answer.the-variants.{MalformedRecord, NoSuchPremise, NotNextDay}
+use Rattle.premise.specs.declared.Answer.the-variants.{MalformedRecord, NoSuchPremise}
 use Rattle.premise.specs.Steps.{is}
-use Rattle.premise.specs.Refusals.{needsPremise}
-use Rattle.premise.specs.OnePremise.{Given, step}
+use Rattle.premise.specs.Refusals.{number, needsPremise}
+use Rattle.premise.specs.OnePremise.{Given}
 use Rattle.premise.specs.WellKept.{FileKept}
 use Rattle.premise.specs.Laws.{KeptFor}
 use Rattle.book.specs.declared.Book.{Book}
 use Rattle.book.specs.Book.{mostFiles, filesOf, bookOf, freshBook, risesFrom, bookKept, fileFor}
-use Rattle.book.specs.Calls.{noticeBytes, markedFiles, markedNotices, onMark, onPremise, refusal, call}
+use Rattle.book.specs.Calls.{noticeBytes, meetsRow6, markedFiles, markedNotices, onPremise, refusal, call, onDayMark, givenOn}
 
 -- ---- well kept
+-- at most 64 files, and the places after them unused: what the functions on a book's places ask of it
+pub record TidyBook (b : Book) : Type 0 where
+  pub few : b .count ≤ mostFiles
+  pub whole : b ≡ bookOf (b .today) (filesOf b)
+
 -- the facts of a well-kept book
 pub record BookKept (b : Book) : Type 0 where
+  pub tidy : TidyBook b
   pub today : b .today ≤ lastDay
-  pub few : b .count ≤ mostFiles
   pub files : Each FileKept (filesOf b)
   pub rising : risesFrom 0 (filesOf b) ≡ true
-  pub whole : b ≡ bookOf (b .today) (filesOf b)
 
 -- the test and the facts behind it say the same
 abbrev pub BookKeptMeans : Type 0
@@ -71,10 +74,6 @@ pub record OnHeld (b : Book) (at : ℕ) (past : File) (r : Record) : Type 0 wher
   pub from : kindNewOrder ≤ r .kind
   pub upto : r .kind ≤ kindReply
 
--- what the one-premise rules give on T and the file at a place
-abbrev pub givenAt : List ℕ → Book → ℕ → File → Record → Given
-givenAt calendar b at past r = step calendar (record { today = b .today; file = some (getD (b .files) at past) }) r
-
 -- the book with another file at a place
 abbrev pub withFileAt : Book → ℕ → File → Book
 withFileAt b at g = record { today = b .today; count = b .count; files = set (b .files) at g }
@@ -84,10 +83,8 @@ abbrev pub numbersOf : Book → List ℕ
 numbersOf b = map (λ (f : File). f .premise) (b .files)
 
 -- what a call comes to that leaves the file g: the one-premise rules' step on the file at the place, with g stored there
-pub record StoresFile (calendar : List ℕ) (b : Book) (bytes lent : List ℕ) (r : Record) (at : ℕ) (past g : File) : Type 0 where
-  pub result :
-      call calendar b bytes lent
-      ≡ record { answer = givenAt calendar b at past r .answer; notices = givenAt calendar b at past r .notices; book = withFileAt b at g }
+pub record StoresFile (calendar : List ℕ) (b : Book) (bytes lent : List ℕ) (r : Record) (at : ℕ) (given : Given) (g : File) : Type 0 where
+  pub result : call calendar b bytes lent ≡ record { answer = given .answer; notices = given .notices; book = withFileAt b at g }
   pub file : KeptFor (r .premise) g
   pub book : bookKept (withFileAt b at g) ≡ true
   pub numbers : numbersOf (withFileAt b at g) ≡ numbersOf b
@@ -96,8 +93,8 @@ abbrev pub CallOnHeld : Type 0
 CallOnHeld =
     (calendar : List ℕ) (b : Book) (bytes lent : List ℕ) (r : Record) (at : ℕ) (past g : File)
     → bookKept b ≡ true → noticeBytes ≤ length lent → reading bytes ≡ Says r → OnHeld b at past r
-    → givenAt calendar b at past r .state .file ≡ some g
-    → StoresFile calendar b bytes lent r at past g
+    → givenOn calendar (b .today) (some (getD (b .files) at past)) r .state .file ≡ some g
+    → StoresFile calendar b bytes lent r at (givenOn calendar (b .today) (some (getD (b .files) at past)) r) g
 
 -- ---- a call by what its record says, without a look into the files
 -- malformed bytes get 3
@@ -113,12 +110,18 @@ CallNotHeld =
     → bookKept b ≡ true → noticeBytes ≤ length lent → reading bytes ≡ Says r → needsPremise r ≡ true → fileFor (r .premise) (filesOf b) ≡ none
     → call calendar b bytes lent ≡ refusal NoSuchPremise b
 
+-- A call is answered 6 exactly where its record meets row 6.
+abbrev pub AnsweredFull : Type 0
+AnsweredFull =
+    (calendar : List ℕ) (b : Book) (bytes lent : List ℕ)
+    → bookKept b ≡ true → noticeBytes ≤ length lent → (number (call calendar b bytes lent .answer) ≡ 6) ↔ (meetsRow6 b (reading bytes) ≡ true)
+
 -- a day mark marks every file on the day after T, and gets 15 on any other
 abbrev pub CallOnMark : Type 0
 CallOnMark =
     (calendar : List ℕ) (b : Book) (bytes lent : List ℕ) (r : Record)
     → bookKept b ≡ true → noticeBytes ≤ length lent → reading bytes ≡ Says r → is kindDayMark r ≡ true
-    → call calendar b bytes lent ≡ cond (eqb (r .day) (b .today + 1)) (onMark calendar b r) (refusal NotNextDay b)
+    → call calendar b bytes lent ≡ onDayMark calendar b r
 
 -- a day mark leaves every premise in its place
 abbrev pub MarkKeepsNumbers : Type 0

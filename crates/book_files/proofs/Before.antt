@@ -1,7 +1,7 @@
 -- Where a premise's file stands: the turns of the search for it, and what is found there among files in rising premise numbers. Assumes
 -- nothing.
 use Prim.Native.Nat.{ℕ, suc, _≤_, _<_}
-use mathlib.Core.Path.{_≡_, refl, sym, ap, _∙_}
+use mathlib.Core.Path.{_≡_, refl, ap, _∙_}
 use mathlib.Core.List.{List, [], _∷_}
 use mathlib.Core.Option.{none, some}
 use mathlib.Core.Bool.{Bool, true, false, cond}
@@ -11,7 +11,7 @@ use lib.ListN.{length, getD}
 use borrow.Author.Tests.{ltb-true, ltb-false, eqb-true, eqb-false, lt-ltb, le-ltb}
 use Rattle.premise.specs.declared.File.{File}
 use Rattle.book.specs.Book.{fileFor}
-use Rattle.book.proofs.Files.{Rising, found-below, found-head, found-tail}
+use Rattle.book.proofs.Files.{Rising, found-below, found-tail}
 use Rattle.book_files.specs.Places.{before}
 
 -- ---- a turn of the search: what is left to search is a file and a rest
@@ -45,25 +45,6 @@ module _ (d : File) (premise : ℕ) where
 
   pub front : (f : File) (fs : List File) → premise ≤ f .premise → before premise (f ∷ fs) ≡ 0
   front f fs h = before-here premise {f = f} {left = f ∷ fs} {rest = fs} refl h
-
-  -- the file stands there
-  pub file-here : (fs : List File) → before premise fs < length fs → getD fs (before premise fs) d .premise ≡ premise → fileFor premise fs ≡ some (getD fs (before premise fs) d)
-  file-here [] h e = absurd (omega arith)
-  file-here (f ∷ fs) h e = go (ltb (f .premise) premise) refl (file-here fs)
-    where
-      go : (a : Bool) → ltb (f .premise) premise ≡ a
-          → (before premise fs < length fs → getD fs (before premise fs) d .premise ≡ premise → fileFor premise fs ≡ some (getD fs (before premise fs) d))
-          → fileFor premise (f ∷ fs) ≡ some (getD (f ∷ fs) (before premise (f ∷ fs)) d)
-      go true t ih =
-          let p = further f fs (ltb-true (f .premise) premise t) in
-          let e′ : getD (f ∷ fs) (suc (before premise fs)) d .premise ≡ premise = ap (λ (n : ℕ). getD (f ∷ fs) n d .premise) (sym p) ∙ e in
-          found-tail premise f fs (λ q. omega (arith, q, ltb-true (f .premise) premise t))
-          ∙ ih (omega (arith, p, h)) e′
-          ∙ ap (λ (n : ℕ). some (getD (f ∷ fs) n d)) (sym p)
-      go false t ih =
-          let p = front f fs (ltb-false (f .premise) premise t) in
-          let e′ : f .premise ≡ premise = ap (λ (n : ℕ). getD (f ∷ fs) n d .premise) (sym p) ∙ e in
-          found-head premise f fs e′ ∙ ap (λ (n : ℕ). some (getD (f ∷ fs) n d)) (sym p)
 
   -- another file stands there, or none
   pub file-elsewhere : (n : ℕ) (fs : List File) → Rising n fs → (before premise fs < length fs → getD fs (before premise fs) d .premise ≡ premise → ⊥) → fileFor premise fs ≡ none

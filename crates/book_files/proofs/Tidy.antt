@@ -3,14 +3,14 @@ use Prim.Native.Nat.{ℕ, zero, suc, _-_, _<_}
 use mathlib.Core.Path.{_≡_, refl, ap, _∙_, sym}
 use mathlib.Core.List.{List, [], _++_}
 use native.Mathlib.Omega.{arith}
-use lib.ListN.{length, drop, getD, set, replicate, length-append, length-replicate, length-set, getD-replicate}
-use lib.Seq.{drop-at, set-append-left, getD-take}
+use lib.ListN.{length, drop, getD, replicate, length-append, length-replicate, getD-replicate}
+use lib.Seq.{drop-at, getD-take}
 use Rattle.premise.specs.declared.File.{File}
 use Rattle.premise.specs.Orders.{blankFile}
 use Rattle.book.specs.declared.Book.{Book}
 use Rattle.book.specs.Book.{mostFiles, filesOf, bookOf}
-use Rattle.book.specs.Laws.{BookKept}
-use Rattle.book_files.specs.Places.{TidyBook}
+use Rattle.book.specs.Laws.{TidyBook}
+use Rattle.book.proofs.Kept.{count-is}
 
 -- what is read past an array's end
 abbrev pub past : File
@@ -43,43 +43,24 @@ pub book-is : (today n : ℕ) (places fs : List File) → n ≡ length fs → pl
 unfolding bookOf spare
 book-is today n places fs e f = rw (e, f)
 
-pub count-of : (today : ℕ) (fs : List File) → bookOf today fs .count ≡ length fs
-unfolding bookOf
-count-of today fs = refl
-
 files-of : (today : ℕ) (fs : List File) → bookOf today fs .files ≡ fs ++ spare (mostFiles - length fs)
 unfolding bookOf spare
 files-of today fs = refl
-
-pub tidy-kept : (b : Book) → BookKept b → TidyBook b
-tidy-kept b k = record { few = k .few; whole = k .whole }
 
 -- the file at a place
 pub at-file : (b : Book) (i : ℕ) → i < b .count → getD (b .files) i past ≡ getD (filesOf b) i past
 at-file b i h = sym (getD-take (b .count) (b .files) i past h)
 
 module _ (b : Book) (tidy : TidyBook b) where
-  pub count-files : length (filesOf b) ≡ b .count
-  count-files = sym (ap (λ (x : Book). x .count) (tidy .whole) ∙ count-of (b .today) (filesOf b))
-
   pub split : b .files ≡ filesOf b ++ spare (mostFiles - b .count)
   split =
       ap (λ (x : Book). x .files) (tidy .whole) ∙ files-of (b .today) (filesOf b)
-      ∙ ap (λ (n : ℕ). filesOf b ++ spare (mostFiles - n)) count-files
+      ∙ ap (λ (n : ℕ). filesOf b ++ spare (mostFiles - n)) (count-is b tidy)
 
   pub length-files : length (b .files) ≡ mostFiles
   length-files =
       ap length split ∙ length-append (filesOf b) (spare (mostFiles - b .count))
-      ∙ omega (arith, count-files, spare-length (mostFiles - b .count), tidy .few)
+      ∙ omega (arith, count-is b tidy, spare-length (mostFiles - b .count), tidy .few)
 
   pub unused : drop (b .count) (b .files) ≡ spare (mostFiles - b .count)
-  unused = ap (drop (b .count)) split ∙ drop-at (filesOf b) (spare (mostFiles - b .count)) (b .count) count-files
-
-  -- ---- a file replaced
-  pub replaced : (at : ℕ) (f : File) → at < b .count → withPlaces b (b .count) (set (b .files) at f) ≡ bookOf (b .today) (set (filesOf b) at f)
-  replaced at f h =
-      book-is (b .today) (b .count) (set (b .files) at f) (set (filesOf b) at f)
-      (sym (length-set (filesOf b) at f ∙ count-files))
-      (ap (λ (fs : List File). set fs at f) split
-      ∙ set-append-left (filesOf b) (spare (mostFiles - b .count)) at f (omega (arith, count-files))
-      ∙ ap (λ (n : ℕ). set (filesOf b) at f ++ spare (mostFiles - n)) (sym (length-set (filesOf b) at f ∙ count-files)))
+  unused = ap (drop (b .count)) split ∙ drop-at (filesOf b) (spare (mostFiles - b .count)) (b .count) (count-is b tidy)

@@ -4,7 +4,8 @@ ghost use mathlib.Core.List.{[]};
 ghost use Prim.Native.Nat.{_<_};
 ghost use lib.ListN.{set};
 ghost use Rattle.book.specs.Book.{filesOf, bookOf};
-ghost use Rattle.book_files.specs.Places.{before, TidyBook};
+ghost use Rattle.book.specs.Laws.{TidyBook};
+ghost use Rattle.book_files.specs.Places.{before};
 use book::Book;
 use premise::File;
 

@@ -17,7 +17,8 @@ use Rattle.premise.specs.Refusals.{isHeld}
 use Rattle.premise.specs.Promises.{Room, asStruct, TidyOrNone, Answered}
 use Rattle.premise.proofs.Few.{step-few}
 use Rattle.book.proofs.Emits.{writes-emits}
-use Rattle.book_in_place.specs.Held.{HeldReady, heldGiven, HeldGives}
+use Rattle.book.specs.Calls.{givenOn}
+use Rattle.book_in_place.specs.Held.{HeldReady, HeldGives}
 use Rattle.book_in_place.proofs.Stays.{file-stays}
 
 -- a file that is left, as the struct has it
@@ -30,7 +31,7 @@ module _ (calendar : List ℕ) (today : ℕ) (file : File) (r : Record) (buffer 
   not-mark : is kindDayMark r ≡ false
   not-mark = ne-eqb (r .kind) kindDayMark (λ q. omega (arith, q, ready .upto))
 
-  pub held-asks : TidyOrNone (record { held = true; file = file }) × (kindCreate ≤ r .kind) × (r .kind ≤ kindReply) × Room 0 (heldGiven calendar today file r .notices) buffer
+  pub held-asks : TidyOrNone (record { held = true; file = file }) × (kindCreate ≤ r .kind) × (r .kind ≤ kindReply) × Room 0 (givenOn calendar today (some file) r .notices) buffer
   held-asks = (
     record { form = refl; tidy = λ _. ready .kept .tidy },
     omega (arith, ready .from),
@@ -39,11 +40,11 @@ module _ (calendar : List ℕ) (today : ℕ) (file : File) (r : Record) (buffer 
   )
 
   -- ---- what comes of it
-  pub held-gives : (p : Replied) (after : List ℕ) → Answered (heldGiven calendar today file r) 0 p buffer after
-      → HeldGives (heldGiven calendar today file r) (record { answer = p .answer; sent = p .sent; file = p .after .file }) buffer after
+  pub held-gives : (p : Replied) (after : List ℕ) → Answered (givenOn calendar today (some file) r) 0 p buffer after
+      → HeldGives (givenOn calendar today (some file) r) (record { answer = p .answer; sent = p .sent; file = p .after .file }) buffer after
   held-gives p after a =
       record {
         answer = a .answer;
-        file = struct-held (heldGiven calendar today file r .state .file) (p .after) (a .file) (file-stays calendar today file r (ready .from) (ready .upto));
-        notices = writes-emits buffer after (p .sent) (heldGiven calendar today file r .notices) (a .wrote);
+        file = struct-held (givenOn calendar today (some file) r .state .file) (p .after) (a .file) (file-stays calendar today file r (ready .from) (ready .upto));
+        notices = writes-emits buffer after (p .sent) (givenOn calendar today (some file) r .notices) (a .wrote);
       }

@@ -1,7 +1,9 @@
 // The book layer, inner: for a player of many records that keeps its book in one place. A record of kinds 3 to 9 on a premise that is
 // held is done on that premise's file alone, so that no book is handed over and back. What is asked and promised, and that it is the record
 // call, stands in `book_in_place`.
-ghost use Rattle.book_in_place.specs.Held.{HeldReady, heldGiven, HeldGives};
+ghost use mathlib.Core.Option.{some};
+ghost use Rattle.book.specs.Calls.{givenOn};
+ghost use Rattle.book_in_place.specs.Held.{HeldReady, HeldGives};
 use book_in_place::HeldReply;
 use premise::File;
 use premise::FileOrNone;
@@ -10,7 +12,7 @@ use records::Record;
 // A record of kinds 3 to 9 on its premise's file.
 pub fn held_call(calendar: &[u8], today: u16, file: File, r: Record, buffer: &mut [u8]) -> HeldReply
     requires { ⌜ HeldReady file r (now buffer) ⌝ }
-    ensures { λ p. ⌜ HeldGives (heldGiven (now (calendar .entry)) today file r) p (now (buffer .entry)) (now (buffer .exit)) ⌝ }
+    ensures { λ p. ⌜ HeldGives (givenOn (now (calendar .entry)) today (some file) r) p (now (buffer .entry)) (now (buffer .exit)) ⌝ }
 {
     let slot = FileOrNone {
         held: true,

@@ -12,10 +12,10 @@ use Rattle.records.specs.Notices.{Emits}
 use Rattle.premise.specs.declared.File.{File}
 use Rattle.premise.specs.WellKept.{FileKept}
 use Rattle.premise.specs.Refusals.{isHeld}
-use Rattle.premise.specs.OnePremise.{Given, step}
+use Rattle.premise.specs.OnePremise.{Given}
 use Rattle.book.specs.declared.Book.{Book}
 use Rattle.book.specs.Book.{bookKept}
-use Rattle.book.specs.Calls.{noticeBytes}
+use Rattle.book.specs.Calls.{noticeBytes, givenOn}
 use Rattle.book_in_place.specs.declared.HeldReply.{HeldReply}
 use Rattle.book_look.specs.LookUp.{KnownHeld}
 
@@ -27,10 +27,6 @@ pub record HeldReady (file : File) (r : Record) (buffer : List ℕ) : Type 0 whe
   pub upto : r .kind ≤ kindReply
   pub room : noticeBytes ≤ length buffer
 
--- what the one-premise rules give on T and the file
-abbrev pub heldGiven : List ℕ → ℕ → File → Record → Given
-heldGiven calendar today file r = step calendar (record { today = today; file = some file }) r
-
 -- what is promised: the answer, the file and the notices are those of the one-premise rules
 pub record HeldGives (given : Given) (p : HeldReply) (before after : List ℕ) : Type 0 where
   pub answer : p .answer ≡ given .answer
@@ -41,7 +37,7 @@ pub record HeldGives (given : Given) (p : HeldReply) (before after : List ℕ) :
 abbrev pub FileStays : Type 0
 FileStays =
     (calendar : List ℕ) (today : ℕ) (file : File) (r : Record) → kindNewOrder ≤ r .kind → r .kind ≤ kindReply
-    → isHeld (heldGiven calendar today file r .state .file) ≡ true
+    → isHeld (givenOn calendar today (some file) r .state .file) ≡ true
 
 -- a well-kept book, a long enough buffer and a record on a premise that it holds give what is asked; proofs/Ready.antt proves it
 abbrev pub BookReady : Type 0

@@ -2,6 +2,7 @@
 use Prim.Native.Nat.{ℕ, _≤_}
 use mathlib.Core.Path.{_≡_}
 use mathlib.Core.List.{List}
+use mathlib.Core.Option.{some}
 use mathlib.Core.Bool.{true}
 use lib.ListN.{length, getD}
 use Rattle.records.specs.declared.Record.{Record}
@@ -12,12 +13,12 @@ use Rattle.premise.specs.Promises.{Writes}
 use Rattle.book.specs.declared.Book.{Book}
 use Rattle.book.specs.declared.Reply.{Reply}
 use Rattle.book.specs.Book.{filesOf, bookOf, bookKept}
-use Rattle.book.specs.Calls.{noticeBytes, markedFiles, markedNotices}
+use Rattle.book.specs.Calls.{noticeBytes, markedFiles, markedNotices, givenOn}
 use Rattle.book.specs.Laws.{withFileAt, numbersOf}
 use Rattle.book.specs.Promise.{Promised}
 use Rattle.book_in_place.specs.declared.HeldReply.{HeldReply}
 use Rattle.book_look.specs.LookUp.{KnownRefused, KnownHeld, KnownMark}
-use Rattle.book_in_place.specs.Held.{heldGiven, HeldGives}
+use Rattle.book_in_place.specs.Held.{HeldGives}
 
 -- the record call's own promise, and the same premise numbers
 pub record InPlace (calendar : List ℕ) (b : Book) (bytes before : List ℕ) (reply : Reply) (after : List ℕ) : Type 0 where
@@ -36,7 +37,7 @@ abbrev pub HeldInPlace : Type 0
 HeldInPlace =
     (calendar : List ℕ) (b : Book) (bytes before after : List ℕ) (r : Record) (at : ℕ) (past : File) (p : HeldReply)
     → bookKept b ≡ true → noticeBytes ≤ length before → KnownHeld bytes b past at r
-    → HeldGives (heldGiven calendar (b .today) (getD (b .files) at past) r) p before after
+    → HeldGives (givenOn calendar (b .today) (some (getD (b .files) at past)) r) p before after
     → InPlace calendar b bytes before (record { answer = p .answer; sent = p .sent; book = withFileAt b at (p .file) }) after
 
 -- a mark of the next day: T becomes the day, and each file is marked in its place

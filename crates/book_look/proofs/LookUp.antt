@@ -25,7 +25,7 @@ use Rattle.premise.specs.Steps.{is}
 use Rattle.premise.specs.Refusals.{needsPremise}
 use Rattle.book.specs.declared.Book.{Book}
 use Rattle.book.specs.Book.{fileFor, bookKept}
-use Rattle.book.specs.Calls.{onMark, refusal}
+use Rattle.book.specs.Calls.{refusal, markedBook}
 use Rattle.book.specs.Laws.{numbersOf}
 use Rattle.book.proofs.ByReading.{call-malformed, call-not-held, call-on-mark}
 use Rattle.book_look.specs.declared.Look.the-variants.{Refused, Held, NextDay, Other}
@@ -71,11 +71,11 @@ module _ (bytes premises : List ℕ) (b : Book) (past : File) (well : bookKept b
         by-test (Known bytes b past) (eqb (r .day) (b .today + 1)) (NextDay (r .day)) (Refused NotNextDay)
         (λ next. record {
           result = λ calendar lent room.
-              call-on-mark calendar b bytes lent r well room e mark ∙ ap (λ (a : Bool). cond a (onMark calendar b r) (refusal NotNextDay b)) next;
+              call-on-mark calendar b bytes lent r well room e mark ∙ ap (λ (a : Bool). cond a (markedBook calendar b (r .day)) (refusal NotNextDay b)) next;
         })
         (λ other. record {
           result = λ calendar lent room.
-              call-on-mark calendar b bytes lent r well room e mark ∙ ap (λ (a : Bool). cond a (onMark calendar b r) (refusal NotNextDay b)) other;
+              call-on-mark calendar b bytes lent r well room e mark ∙ ap (λ (a : Bool). cond a (markedBook calendar b (r .day)) (refusal NotNextDay b)) other;
         })
 
     -- ---- a record that needs a premise

@@ -13,12 +13,12 @@ use Rattle.records.specs.declared.Reading.the-variants.{Malformed, Says}
 use Rattle.records.specs.Records.{reading, kindRetire, kindDayMark}
 use Rattle.premise.specs.declared.File.{File}
 use Rattle.premise.specs.declared.Answer.{Answer}
-use Rattle.premise.specs.declared.Answer.the-variants.{Accepted, MalformedRecord, NoSuchPremise, NotNextDay}
+use Rattle.premise.specs.declared.Answer.the-variants.{MalformedRecord, NoSuchPremise, NotNextDay}
 use Rattle.premise.specs.Steps.{is}
 use Rattle.premise.specs.Refusals.{needsPremise}
 use Rattle.book.specs.declared.Book.{Book}
-use Rattle.book.specs.Book.{filesOf, bookOf, bookKept}
-use Rattle.book.specs.Calls.{noticeBytes, markedFiles, markedNotices, Result, refusal, call}
+use Rattle.book.specs.Book.{bookKept}
+use Rattle.book.specs.Calls.{noticeBytes, refusal, call, markedBook}
 use Rattle.book.specs.Laws.{OnHeld, numbersOf}
 use Rattle.book_numbers.specs.Numbers.{placeOfPremise}
 use Rattle.book_look.specs.declared.Look.{Look}
@@ -57,10 +57,6 @@ pub record KnownHeld (bytes : List ℕ) (b : Book) (past : File) (at : ℕ) (r :
   pub held : OnHeld b at past r
 
 -- it marks the next day: every file of the book is marked
-abbrev pub markedBook : List ℕ → Book → ℕ → Result
-markedBook calendar b day =
-    record { answer = Accepted; notices = markedNotices calendar day (filesOf b); book = bookOf day (markedFiles calendar day (filesOf b)) }
-
 pub record KnownMark (bytes : List ℕ) (b : Book) (day : ℕ) : Type 0 where
   pub result : (calendar lent : List ℕ) → noticeBytes ≤ length lent → call calendar b bytes lent ≡ markedBook calendar b day
 

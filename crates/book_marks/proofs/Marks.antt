@@ -1,7 +1,7 @@
 -- A day mark on a tidy book, file by file: what stands after some turns, and at the end. Assumes nothing.
 use Prim.Native.Nat.{ℕ, suc, _+_, _-_, _≤_, _<_}
 use mathlib.Core.Path.{_≡_, refl, sym, ap, ap₂, subst, subst⁻¹, _∙_}
-use mathlib.Core.List.{List, [], _∷_, _++_, append-assoc, append-nil}
+use mathlib.Core.List.{List, [], _∷_, _++_, append-assoc, append-nil, map-append}
 use mathlib.Core.Bool.{Bool, false}
 use native.Mathlib.Numerals.{add-one}
 use native.Mathlib.Omega.{arith}
@@ -25,15 +25,12 @@ use Rattle.premise_passes.proofs.Then.{done-nothing}
 use Rattle.book.specs.declared.Book.{Book}
 use Rattle.book.specs.Book.{mostFiles, filesOf, bookOf}
 use Rattle.book.specs.Calls.{markedFiles, markedNotices}
-use Rattle.book_files.specs.Places.{TidyBook}
-use Rattle.book_files.proofs.Tidy.{past, spare, withPlaces, at-file, count-files, length-files, unused, book-is}
+use Rattle.book.specs.Laws.{TidyBook}
+use Rattle.book.proofs.Kept.{count-is}
+use Rattle.book_files.proofs.Tidy.{past, spare, withPlaces, at-file, length-files, unused, book-is}
 
 module _ (calendar : List ℕ) (day : ℕ) where
   -- a mark on a list that is put together
-  files-append : (xs ys : List File) → markedFiles calendar day (xs ++ ys) ≡ markedFiles calendar day xs ++ markedFiles calendar day ys
-  files-append [] ys = refl
-  files-append (x ∷ xs) ys = ap (λ (l : List File). marked calendar day x .file ∷ l) (files-append xs ys)
-
   notices-append : (xs ys : List File) → markedNotices calendar day (xs ++ ys) ≡ markedNotices calendar day xs ++ markedNotices calendar day ys
   notices-append [] ys = refl
   notices-append (x ∷ xs) ys =
@@ -65,7 +62,7 @@ module _ (calendar : List ℕ) (day : ℕ) (b : Book) (tidy : TidyBook b) where
     file = getD (filesOf b) i past
 
     inside : i < length (filesOf b)
-    inside = omega (arith, count-files b tidy)
+    inside = omega (arith, count-is b tidy)
 
     done-length : length (markedFiles calendar day (take i (filesOf b))) ≡ i
     done-length = length-marked calendar day (take i (filesOf b)) ∙ omega (arith, length-take i (filesOf b), inside)
@@ -75,7 +72,7 @@ module _ (calendar : List ℕ) (day : ℕ) (b : Book) (tidy : TidyBook b) where
     files-more = rw (add-one i, take-suc (filesOf b) i past inside)
 
     marked-more : markedFiles calendar day (take (i + 1) (filesOf b)) ≡ markedFiles calendar day (take i (filesOf b)) ++ (marked calendar day file .file ∷ [])
-    marked-more = ap (markedFiles calendar day) files-more ∙ files-append calendar day (take i (filesOf b)) (file ∷ [])
+    marked-more = ap (markedFiles calendar day) files-more ∙ map-append (λ (f : File). marked calendar day f .file) (take i (filesOf b)) (file ∷ [])
 
     notices-more : markedNotices calendar day (take (i + 1) (filesOf b)) ≡ markedNotices calendar day (take i (filesOf b)) ++ marked calendar day file .notices
     notices-more =
@@ -154,11 +151,11 @@ module _ (calendar : List ℕ) (day : ℕ) (b : Book) (tidy : TidyBook b) where
   -- after the last turn the mark is done
   module _ (buffer : List ℕ) (i sent : ℕ) (c : Book) (after : List ℕ) (s : Sofar calendar day (b .count) (b .files) buffer i sent c after) (e : b .count ≤ i) where
     all-files : take i (filesOf b) ≡ filesOf b
-    all-files = take-all i (filesOf b) (omega (arith, count-files b tidy))
+    all-files = take-all i (filesOf b) (omega (arith, count-is b tidy))
 
     pub sofar-book : c ≡ bookOf day (markedFiles calendar day (filesOf b))
     sofar-book =
-        let n : b .count ≡ length (markedFiles calendar day (filesOf b)) = sym (length-marked calendar day (filesOf b) ∙ count-files b tidy) in
+        let n : b .count ≡ length (markedFiles calendar day (filesOf b)) = sym (length-marked calendar day (filesOf b) ∙ count-is b tidy) in
         let m : i ≡ b .count = omega (arith, s .within) in
         s .here
         ∙ book-is day (b .count) (markedFiles calendar day (take i (filesOf b)) ++ drop i (b .files)) (markedFiles calendar day (filesOf b)) n

@@ -15,18 +15,16 @@ use Rattle.premise.specs.Promises.{Room, Writes}
 use Rattle.book.specs.declared.Book.{Book}
 use Rattle.book.specs.declared.Reply.{Reply}
 use Rattle.book.specs.Book.{filesOf, bookOf}
-use Rattle.book.specs.Calls.{noticeBytes, markedFiles, markedNotices, onMark, refusal}
-use Rattle.book.specs.Laws.{BookKept}
+use Rattle.book.specs.Calls.{noticeBytes, markedFiles, markedNotices, refusal, markedBook, onDayMark}
+use Rattle.book.specs.Laws.{BookKept, TidyBook}
 use Rattle.book.proofs.Few.{mark-all-few}
-use Rattle.book_files.specs.Places.{TidyBook}
-use Rattle.book_files.proofs.Tidy.{tidy-kept}
-use Rattle.book_replies.specs.Parts.{Gives, onDayMark}
+use Rattle.book_replies.specs.Parts.{Gives}
 use Rattle.book_replies.proofs.Refusals.{gives-refusal}
 
 pub mark-asks : (calendar : List ℕ) (b : Book) (day : ℕ) (buffer : List ℕ) → BookKept b → noticeBytes ≤ length buffer
     → TidyBook b × Each Tidy (filesOf b) × Room 0 (markedNotices calendar day (filesOf b)) buffer
 mark-asks calendar b day buffer k room =
-    (tidy-kept b k, each-map FileKept Tidy (λ f u. u .tidy) (filesOf b) (k .files), omega (arith, mark-all-few calendar b day k, room))
+    (k .tidy, each-map FileKept Tidy (λ f u. u .tidy) (filesOf b) (k .files), omega (arith, mark-all-few calendar b day k, room))
 
 module _ (calendar : List ℕ) (b : Book) (r : Record) (buffer : List ℕ) where
   pub mark-refused : (p : Reply) → (r .day ≡ b .today + 1 → ⊥) → p ≡ record { answer = NotNextDay; sent = 0; book = b } → Gives (onDayMark calendar b r) p buffer buffer
@@ -36,6 +34,6 @@ module _ (calendar : List ℕ) (b : Book) (r : Record) (buffer : List ℕ) where
       → c ≡ bookOf (r .day) (markedFiles calendar (r .day) (filesOf b)) → Writes 0 buffer after sent (markedNotices calendar (r .day) (filesOf b))
       → Gives (onDayMark calendar b r) (record { answer = Accepted; sent = sent; book = c }) buffer after
   mark-done c sent after e book wrote =
-      subst⁻¹ (λ (a : Bool). Gives (cond a (onMark calendar b r) (refusal NotNextDay b)) (record { answer = Accepted; sent = sent; book = c }) buffer after)
+      subst⁻¹ (λ (a : Bool). Gives (cond a (markedBook calendar b (r .day)) (refusal NotNextDay b)) (record { answer = Accepted; sent = sent; book = c }) buffer after)
       (eq-eqb (r .day) (b .today + 1) e)
       (record { answer = refl; book = book; wrote = wrote })

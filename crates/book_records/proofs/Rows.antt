@@ -1,79 +1,33 @@
--- What a call on a well-kept book does, by what the record's bytes say: rows 3 to 15. Assumes nothing.
+-- A record that is no day mark, on a well-kept book: row 6, or what the one-premise rules give. Assumes nothing.
 use Prim.Native.Nat.{ℕ, _≤_}
 use mathlib.Core.Path.{_≡_, refl, ap, _∙_}
-use mathlib.Core.List.{List, [], _∷_, _++_}
-use mathlib.Core.Option.{Option, none, some}
-use mathlib.Core.Bool.{Bool, true, false, cond, not, _&&_}
-use native.Mathlib.Omega.{arith}
-use lib.Dec.{eqb}
+use mathlib.Core.List.{List}
+use mathlib.Core.Bool.{Bool, true, false, cond}
 use lib.ListN.{length}
-use borrow.Author.Tests.{eqb-true, ne-eqb}
-use Rattle.lists.proofs.TestLaws.{and-left, and-right}
 use Rattle.records.specs.declared.Record.{Record}
 use Rattle.records.specs.declared.Reading.{Reading}
-use Rattle.records.specs.declared.Reading.the-variants.{Malformed, Says}
-use Rattle.records.specs.Records.{reading, kindCreate, kindDayMark}
-use Rattle.premise.specs.declared.File.{File}
+use Rattle.records.specs.declared.Reading.the-variants.{Says}
+use Rattle.records.specs.Records.{reading, kindDayMark}
 use Rattle.premise.specs.declared.Answer.{Answer}
-use Rattle.premise.specs.declared.Answer.the-variants.{MalformedRecord, BookFull}
+use Rattle.premise.specs.declared.Answer.the-variants.{BookFull}
 use Rattle.premise.specs.Steps.{is}
-use Rattle.premise.specs.Refusals.{row, firstRow, number, isHeld, ordersOf, premiseRows, orderRows}
-use Rattle.premise.proofs.Answers.{create-passes}
+use Rattle.premise.specs.Refusals.{firstRow}
 use Rattle.book.specs.declared.Book.{Book}
-use Rattle.book.specs.Book.{mostFiles, filesOf, fileFor}
-use Rattle.book.specs.Calls.{noticeBytes, recordRows, callRows, onReading, refusal, call}
+use Rattle.book.specs.Calls.{noticeBytes, recordRows, refusal, call, meetsRow6, onDayMark, asOne}
 use Rattle.book.specs.Laws.{BookKept}
-use Rattle.book.specs.Demand3.{meetsRow6}
 use Rattle.book.proofs.Kept.{book-kept-means}
-use Rattle.book.proofs.Rows.{record-decides}
-use Rattle.book.proofs.Acts.{asMark, asOne, acted, call-acts}
-use Rattle.book_replies.specs.Parts.{onDayMark, onOther}
-use Rattle.book_replies.proofs.Refusals.{refuses}
+use Rattle.book.proofs.Rows.{record-decides, refusing}
+use Rattle.book.proofs.Row6.{first-full}
+use Rattle.book.proofs.Acts.{acted, call-acts, decided, refuses}
+use Rattle.book_replies.specs.Parts.{onOther}
 
 module _ (calendar : List ℕ) (b : Book) (bytes lent : List ℕ) (k : BookKept b) (room : noticeBytes ≤ length lent) where
-  -- row 6
-  first-full : (r : Record) → meetsRow6 b (Says r) ≡ true → firstRow (recordRows calendar b (Says r)) ≡ BookFull
-  first-full r e = go (fileFor (r .premise) (filesOf b)) e
-    where
-      go : (file : Option File) → (is kindCreate r && not (isHeld file) && eqb (length (filesOf b)) mostFiles) ≡ true
-          → firstRow (premiseRows file r ++ (row BookFull (is kindCreate r && eqb (length (filesOf b)) mostFiles) ∷ orderRows calendar (b .today) (ordersOf file) r)) ≡ BookFull
-      go none q =
-          let creates = and-left (is kindCreate r) true (and-left (is kindCreate r && true) (eqb (length (filesOf b)) mostFiles) q) in
-          let full = and-right (is kindCreate r && true) (eqb (length (filesOf b)) mostFiles) q in
-          create-passes r (row BookFull (is kindCreate r && eqb (length (filesOf b)) mostFiles) ∷ orderRows calendar (b .today) [] r) creates
-          ∙ rw (creates, full) refl
-      go (some f) q =
-          let none-such = and-right (is kindCreate r) false (and-left (is kindCreate r && false) (eqb (length (filesOf b)) mostFiles) q) in
-          let z : _≡_ {A = ℕ} 0 1 = cc (none-such) in absurd (omega (arith, z))
-
-  decided-full : (first : Answer) → first ≡ BookFull → cond (eqb (number first) 0) (onReading calendar b (reading bytes)) (refusal first b) ≡ refusal BookFull b
-  decided-full first e = rw (e, refuses BookFull (λ e. let z : _≡_ {A = ℕ} 0 1 = cc in omega arith))
-
   call-full : (r : Record) → reading bytes ≡ Says r → meetsRow6 b (Says r) ≡ true → call calendar b bytes lent ≡ refusal BookFull b
   unfolding call
   call-full r e full =
-      decided-full (firstRow (callRows calendar b bytes lent))
-      (record-decides calendar b bytes lent room (book-kept-means b .1 k) ∙ ap (λ (d : Reading). firstRow (recordRows calendar b d)) e ∙ first-full r full)
-
-  -- a create is no day mark
-  no-mark : (r : Record) → meetsRow6 b (Says r) ≡ true → is kindDayMark r ≡ false
-  no-mark r e =
-      let creates = and-left (is kindCreate r) (not (isHeld (fileFor (r .premise) (filesOf b)))) (and-left (is kindCreate r && not (isHeld (fileFor (r .premise) (filesOf b)))) (eqb (length (filesOf b)) mostFiles) e) in
-      ne-eqb (r .kind) kindDayMark (λ q. omega (arith, q, eqb-true (r .kind) kindCreate creates))
-
-  -- rows 3 to 15, by what the bytes say
-  pub call-malformed : reading bytes ≡ Malformed → call calendar b bytes lent ≡ refusal MalformedRecord b
-  call-malformed e =
-      call-acts calendar b bytes lent k room (ap (meetsRow6 b) e) ∙ ap (acted calendar b) e
-
-  pub call-mark : (r : Record) → reading bytes ≡ Says r → is kindDayMark r ≡ true → call calendar b bytes lent ≡ onDayMark calendar b r
-  call-mark r e t = go (meetsRow6 b (Says r)) refl
-    where
-      go : (full : Bool) → meetsRow6 b (Says r) ≡ full → call calendar b bytes lent ≡ onDayMark calendar b r
-      go true q = let z : _≡_ {A = ℕ} 0 1 = cc (t, no-mark r q) in absurd (omega (arith, z))
-      go false q =
-          call-acts calendar b bytes lent k room (ap (meetsRow6 b) e ∙ q) ∙ ap (acted calendar b) e
-          ∙ ap (λ (a : Bool). cond a (asMark calendar b r) (asOne calendar b r)) t
+      ap (λ (first : Answer). decided calendar b first (reading bytes))
+      (record-decides calendar b bytes lent room (book-kept-means b .1 k) ∙ ap (λ (d : Reading). firstRow (recordRows calendar b d)) e ∙ first-full calendar b r full)
+      ∙ refuses calendar b BookFull (reading bytes) (refusing BookFull refl)
 
   pub call-other : (r : Record) → reading bytes ≡ Says r → is kindDayMark r ≡ false → call calendar b bytes lent ≡ onOther calendar b r
   call-other r e t = go (meetsRow6 b (Says r)) refl
@@ -82,4 +36,4 @@ module _ (calendar : List ℕ) (b : Book) (bytes lent : List ℕ) (k : BookKept 
       go true q = call-full r e q
       go false q =
           call-acts calendar b bytes lent k room (ap (meetsRow6 b) e ∙ q) ∙ ap (acted calendar b) e
-          ∙ ap (λ (a : Bool). cond a (asMark calendar b r) (asOne calendar b r)) t
+          ∙ ap (λ (a : Bool). cond a (onDayMark calendar b r) (asOne calendar b r)) t

@@ -14,16 +14,14 @@ use Rattle.premise.specs.declared.File.{File}
 use Rattle.premise.specs.declared.FileOrNone.{FileOrNone}
 use Rattle.premise.specs.declared.Replied.{Replied}
 use Rattle.premise.specs.declared.Answer.the-variants.{BookFull}
-use Rattle.premise.specs.OnePremise.{Given, step}
 use Rattle.premise.specs.Laws.{Held, KeptFor}
 use Rattle.premise.specs.Promises.{Room, asStruct, Answered}
 use Rattle.book.specs.declared.Book.{Book}
 use Rattle.book.specs.Book.{filesOf, bookOf, fileFor, withFile}
-use Rattle.book.specs.Calls.{premiseState, refusal}
-use Rattle.book.specs.Demand3.{meetsRow6}
+use Rattle.book.specs.Calls.{refusal, meetsRow6, inBook, asOne, givenOn}
 use Rattle.book.proofs.Keeps.{step-kept-file}
 use Rattle.book.proofs.Few.{step-all-few}
-use Rattle.book_replies.specs.Parts.{Gives, inBook, onOther, Ready}
+use Rattle.book_replies.specs.Parts.{Gives, onOther, Ready}
 
 -- ---- a file or none, as the struct has it
 struct-some : (file : Option File) (s : FileOrNone) → s ≡ asStruct file → s .held ≡ true → file ≡ some (s .file)
@@ -34,10 +32,6 @@ struct-none : (file : Option File) (s : FileOrNone) → s ≡ asStruct file → 
 struct-none none s e h = refl
 struct-none (some f) s e h = let q : s .held ≡ true = ap (λ (x : FileOrNone). x .held) e in let z : _≡_ {A = ℕ} 0 1 = cc (q, h) in absurd (omega (arith, z))
 
--- what the one-premise rules give, by the file or none
-abbrev pub given : List ℕ → Book → Record → Option File → Given
-given calendar b r file = step calendar (record { today = b .today; file = file }) r
-
 module _ (calendar : List ℕ) (b : Book) (r : Record) (buffer : List ℕ) (ready : Ready b r buffer) where
   pub kind-from : kindCreate ≤ r .kind
   kind-from = omega (arith, formed r (ready .formed) .kind .given)
@@ -46,30 +40,30 @@ module _ (calendar : List ℕ) (b : Book) (r : Record) (buffer : List ℕ) (read
   kind-upto = omega (arith, formed r (ready .formed) .kind .within, eqb-false (r .kind) kindDayMark (ready .other))
 
   module _ (file : Option File) (found : fileFor (r .premise) (filesOf b) ≡ file) where
-    pub room-for : Room 0 (given calendar b r file .notices) buffer
+    pub room-for : Room 0 (givenOn calendar (b .today) file r .notices) buffer
     room-for =
-        subst (λ (x : Option File). Room 0 (given calendar b r x .notices) buffer) found
+        subst (λ (x : Option File). Room 0 (givenOn calendar (b .today) x r .notices) buffer) found
         (omega (arith, step-all-few calendar b r (ready .kept) (ready .formed) (ready .other), ready .room))
 
     -- the file afterwards is the premise's
-    numbered : Held (KeptFor (r .premise)) (given calendar b r file .state .file)
-    numbered = subst (λ (x : Option File). Held (KeptFor (r .premise)) (given calendar b r x .state .file)) found (step-kept-file b (ready .kept) calendar r (ready .formed))
+    numbered : Held (KeptFor (r .premise)) (givenOn calendar (b .today) file r .state .file)
+    numbered = subst (λ (x : Option File). Held (KeptFor (r .premise)) (givenOn calendar (b .today) x r .state .file)) found (step-kept-file b (ready .kept) calendar r (ready .formed))
 
     -- with row 6 out of the way, what the one-premise rules give
-    pub gives : meetsRow6 b (Says r) ≡ false → (p : Replied) (after : List ℕ) (c : Book) → Answered (given calendar b r file) 0 p buffer after
-        → c ≡ bookOf (b .today) (withFile (r .premise) (given calendar b r file .state .file) (filesOf b))
+    pub gives : meetsRow6 b (Says r) ≡ false → (p : Replied) (after : List ℕ) (c : Book) → Answered (givenOn calendar (b .today) file r) 0 p buffer after
+        → c ≡ bookOf (b .today) (withFile (r .premise) (givenOn calendar (b .today) file r .state .file) (filesOf b))
         → Gives (onOther calendar b r) (record { answer = p .answer; sent = p .sent; book = c }) buffer after
     gives places p after c a e =
-        subst⁻¹ (λ (full : Bool). Gives (cond full (refusal BookFull b) (inBook b (r .premise) (step calendar (premiseState b (r .premise)) r))) (record { answer = p .answer; sent = p .sent; book = c }) buffer after) places
-        (subst⁻¹ (λ (x : Option File). Gives (inBook b (r .premise) (given calendar b r x)) (record { answer = p .answer; sent = p .sent; book = c }) buffer after) found
+        subst⁻¹ (λ (full : Bool). Gives (cond full (refusal BookFull b) (asOne calendar b r)) (record { answer = p .answer; sent = p .sent; book = c }) buffer after) places
+        (subst⁻¹ (λ (x : Option File). Gives (inBook b (r .premise) (givenOn calendar (b .today) x r)) (record { answer = p .answer; sent = p .sent; book = c }) buffer after) found
         (record { answer = a .answer; book = e; wrote = a .wrote }))
 
     -- the file that is left
-    pub left : (p : Replied) (after : List ℕ) → Answered (given calendar b r file) 0 p buffer after → p .after .held ≡ true → given calendar b r file .state .file ≡ some (p .after .file)
-    left p after a h = struct-some (given calendar b r file .state .file) (p .after) (a .file) h
+    pub left : (p : Replied) (after : List ℕ) → Answered (givenOn calendar (b .today) file r) 0 p buffer after → p .after .held ≡ true → givenOn calendar (b .today) file r .state .file ≡ some (p .after .file)
+    left p after a h = struct-some (givenOn calendar (b .today) file r .state .file) (p .after) (a .file) h
 
-    pub number-left : (p : Replied) (after : List ℕ) (a : Answered (given calendar b r file) 0 p buffer after) → p .after .held ≡ true → p .after .file .premise ≡ r .premise
+    pub number-left : (p : Replied) (after : List ℕ) (a : Answered (givenOn calendar (b .today) file r) 0 p buffer after) → p .after .held ≡ true → p .after .file .premise ≡ r .premise
     number-left p after a h = (subst (Held (KeptFor (r .premise))) (left p after a h) numbered) .number
 
-    pub none-left : (p : Replied) (after : List ℕ) → Answered (given calendar b r file) 0 p buffer after → p .after .held ≡ false → given calendar b r file .state .file ≡ none
-    none-left p after a h = struct-none (given calendar b r file .state .file) (p .after) (a .file) h
+    pub none-left : (p : Replied) (after : List ℕ) → Answered (givenOn calendar (b .today) file r) 0 p buffer after → p .after .held ≡ false → givenOn calendar (b .today) file r .state .file ≡ none
+    none-left p after a h = struct-none (givenOn calendar (b .today) file r .state .file) (p .after) (a .file) h

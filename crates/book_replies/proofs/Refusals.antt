@@ -2,13 +2,7 @@
 use Prim.Native.Nat.{ℕ}
 use mathlib.Core.Path.{_≡_, refl, subst⁻¹}
 use mathlib.Core.List.{List}
-use mathlib.Core.Bool.{false}
-use lib.Dec.{eqb}
-use borrow.Author.Tests.{ne-eqb}
 use Rattle.premise.specs.declared.Answer.{Answer}
-use Rattle.premise.specs.declared.Answer.the-variants.{Accepted}
-use Rattle.premise.specs.Refusals.{number}
-use Rattle.premise.proofs.Table.{accepted-is-zero}
 use Rattle.book.specs.declared.Book.{Book}
 use Rattle.book.specs.declared.Reply.{Reply}
 use Rattle.book.specs.Calls.{Result, refusal, call}
@@ -21,10 +15,6 @@ use Rattle.premise_notices.proofs.Writes.{writes-none}
 pub gives-refusal : (answer : Answer) (b : Book) (p : Reply) (buffer : List ℕ) → p ≡ record { answer = answer; sent = 0; book = b } → Gives (refusal answer b) p buffer buffer
 gives-refusal answer b p buffer e =
     subst⁻¹ (λ (x : Reply). Gives (refusal answer b) x buffer buffer) e (record { answer = refl; book = refl; wrote = writes-none 0 buffer })
-
--- an answer that is not acceptance refuses
-pub refuses : (answer : Answer) → (answer ≡ Accepted → ⊥) → eqb (number answer) 0 ≡ false
-refuses answer other = ne-eqb (number answer) 0 (λ e. other (accepted-is-zero answer .0 e))
 
 module _ (calendar : List ℕ) (b : Book) (bytes lent : List ℕ) where
   -- what a part gives, where it is the whole call, is what the call promises

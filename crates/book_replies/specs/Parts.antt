@@ -1,23 +1,19 @@
 -- What the parts of a call promise: the parts of what the book's definitions say.
-use Prim.Native.Nat.{ℕ, _+_, _≤_}
+use Prim.Native.Nat.{ℕ, _≤_}
 use mathlib.Core.Path.{_≡_}
 use mathlib.Core.List.{List}
 use mathlib.Core.Bool.{true, false, cond}
-use lib.Dec.{eqb}
 use lib.ListN.{length}
 use Rattle.records.specs.declared.Record.{Record}
 use Rattle.records.specs.declared.Reading.the-variants.{Says}
 use Rattle.records.specs.Records.{kindDayMark, wellFormed}
-use Rattle.premise.specs.declared.Answer.the-variants.{BookFull, NotNextDay}
+use Rattle.premise.specs.declared.Answer.the-variants.{BookFull}
 use Rattle.premise.specs.Steps.{is}
-use Rattle.premise.specs.OnePremise.{Given, step}
 use Rattle.premise.specs.Promises.{Writes}
 use Rattle.book.specs.declared.Book.{Book}
 use Rattle.book.specs.declared.Reply.{Reply}
-use Rattle.book.specs.Book.{filesOf, bookOf, withFile}
-use Rattle.book.specs.Calls.{noticeBytes, Result, onMark, premiseState, refusal}
+use Rattle.book.specs.Calls.{noticeBytes, Result, refusal, meetsRow6, asOne}
 use Rattle.book.specs.Laws.{BookKept}
-use Rattle.book.specs.Demand3.{meetsRow6}
 
 -- everything that comes of a part, by equation
 pub record Gives (result : Result) (p : Reply) (before after : List ℕ) : Type 0 where
@@ -25,22 +21,9 @@ pub record Gives (result : Result) (p : Reply) (before after : List ℕ) : Type 
   pub book : p .book ≡ result .book
   pub wrote : Writes 0 before after (p .sent) (result .notices)
 
--- a day mark: row 15, then the mark
-abbrev pub onDayMark : List ℕ → Book → Record → Result
-onDayMark calendar b r = cond (eqb (r .day) (b .today + 1)) (onMark calendar b r) (refusal NotNextDay b)
-
--- what the one-premise rules give, in the book
-abbrev pub inBook : Book → ℕ → Given → Result
-inBook b premise given =
-    record {
-      answer = given .answer;
-      notices = given .notices;
-      book = bookOf (b .today) (withFile premise (given .state .file) (filesOf b));
-    }
-
 -- any other record: row 6, then the one-premise rules
 abbrev pub onOther : List ℕ → Book → Record → Result
-onOther calendar b r = cond (meetsRow6 b (Says r)) (refusal BookFull b) (inBook b (r .premise) (step calendar (premiseState b (r .premise)) r))
+onOther calendar b r = cond (meetsRow6 b (Says r)) (refusal BookFull b) (asOne calendar b r)
 
 -- what a part asks for: a well-kept book, a well-formed record that is no day mark, and a long enough buffer
 pub record Ready (b : Book) (r : Record) (buffer : List ℕ) : Type 0 where

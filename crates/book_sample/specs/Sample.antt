@@ -11,8 +11,8 @@ use Rattle.records.specs.Records.{reading}
 use Rattle.records.specs.Notices.{encodeAll, rows}
 use Rattle.book.specs.declared.Book.{Book}
 use Rattle.book.specs.Book.{freshBook}
-use Rattle.book.specs.Calls.{noticeBytes, Result, call}
-use Rattle.book.specs.Demand3.{Made, meetsRow6, answers, noticesFor}
+use Rattle.book.specs.Calls.{noticeBytes, Result, call, meetsRow6}
+use Rattle.book.specs.Demand3.{Made, answers, noticesFor}
 
 -- a buffer of the shortest length that is taken
 unfoldable pub lent : List ℕ

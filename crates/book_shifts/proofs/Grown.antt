@@ -11,8 +11,9 @@ use Rattle.lists.proofs.Shift.{inserted-length, inserted-take, inserted-at, ins
 use Rattle.premise.specs.declared.File.{File}
 use Rattle.book.specs.declared.Book.{Book}
 use Rattle.book.specs.Book.{mostFiles, filesOf, bookOf}
-use Rattle.book_files.specs.Places.{TidyBook}
-use Rattle.book_files.proofs.Tidy.{past, withPlaces, spare, spare-length, spare-drop, book-is, count-files, split, length-files}
+use Rattle.book.specs.Laws.{TidyBook}
+use Rattle.book.proofs.Kept.{count-is}
+use Rattle.book_files.proofs.Tidy.{past, withPlaces, spare, spare-length, spare-drop, book-is, split, length-files}
 
 module _ (b : Book) (tidy : TidyBook b) where
   module _ (at : ℕ) (f : File) (h : at ≤ b .count) (room : b .count < mostFiles) where
@@ -21,10 +22,10 @@ module _ (b : Book) (tidy : TidyBook b) where
     grown = inserted at f (filesOf b) ++ spare (mostFiles - (b .count + 1))
 
     inside : at ≤ length (filesOf b)
-    inside = omega (arith, count-files b tidy)
+    inside = omega (arith, count-is b tidy)
 
     grown-count : length (inserted at f (filesOf b)) ≡ b .count + 1
-    grown-count = inserted-length past at (filesOf b) [] [] inside f ∙ ap (λ (n : ℕ). n + 1) (count-files b tidy)
+    grown-count = inserted-length past at (filesOf b) [] [] inside f ∙ ap (λ (n : ℕ). n + 1) (count-is b tidy)
 
     grown-length : length grown ≡ mostFiles
     grown-length =
@@ -34,7 +35,7 @@ module _ (b : Book) (tidy : TidyBook b) where
     grown-drop : drop (b .count + 1) grown ≡ drop (b .count + 1) (b .files)
     grown-drop =
         let e : mostFiles - b .count - 1 ≡ mostFiles - (b .count + 1) = omega arith in
-        let n : length (filesOf b) + 1 ≡ b .count + 1 = omega (arith, count-files b tidy) in
+        let n : length (filesOf b) + 1 ≡ b .count + 1 = omega (arith, count-is b tidy) in
         drop-at (inserted at f (filesOf b)) (spare (mostFiles - (b .count + 1))) (b .count + 1) grown-count
         ∙ sym
         (ap (drop (b .count + 1)) (split b tidy)
@@ -74,7 +75,7 @@ module _ (b : Book) (tidy : TidyBook b) where
           ap (λ (x : Book). getD (x .files) i past) s
           ∙ over-at past grown (b .files) i i (omega arith) (omega (arith, grown-length))
           ∙ ap (λ (fs : List File). getD fs i past) (split b tidy)
-          ∙ sym (inserted-next past at (filesOf b) (spare (mostFiles - (b .count + 1))) (spare (mostFiles - b .count)) inside f i k (omega (arith, count-files b tidy)))
+          ∙ sym (inserted-next past at (filesOf b) (spare (mostFiles - (b .count + 1))) (spare (mostFiles - b .count)) inside f i k (omega (arith, count-is b tidy)))
 
       pub grow-end : i ≡ b .count + 1 → withPlaces c (b .count + 1) (c .files) ≡ bookOf (b .today) (inserted at f (filesOf b))
       grow-end e =

@@ -12,8 +12,9 @@ use Rattle.premise.specs.declared.File.{File}
 use Rattle.premise.specs.Orders.{blankFile}
 use Rattle.book.specs.declared.Book.{Book}
 use Rattle.book.specs.Book.{mostFiles, filesOf, bookOf}
-use Rattle.book_files.specs.Places.{TidyBook}
-use Rattle.book_files.proofs.Tidy.{past, withPlaces, spare, spare-length, spare-drop, spare-at, book-is, count-files, split, length-files, unused}
+use Rattle.book.specs.Laws.{TidyBook}
+use Rattle.book.proofs.Kept.{count-is}
+use Rattle.book_files.proofs.Tidy.{past, withPlaces, spare, spare-length, spare-drop, spare-at, book-is, split, length-files, unused}
 
 module _ (b : Book) (tidy : TidyBook b) where
   module _ (at : ℕ) (h : at < b .count) where
@@ -22,10 +23,10 @@ module _ (b : Book) (tidy : TidyBook b) where
     shrunk = removed at (filesOf b) ++ spare (mostFiles - (b .count - 1))
 
     within : at ≤ length (filesOf b)
-    within = omega (arith, count-files b tidy)
+    within = omega (arith, count-is b tidy)
 
     shrunk-count : length (removed at (filesOf b)) ≡ b .count - 1
-    shrunk-count = omega (arith, removed-length past at (filesOf b) [] [] within (omega (arith, count-files b tidy)), count-files b tidy)
+    shrunk-count = omega (arith, removed-length past at (filesOf b) [] [] within (omega (arith, count-is b tidy)), count-is b tidy)
 
     shrunk-length : length shrunk ≡ mostFiles
     shrunk-length =
@@ -74,7 +75,7 @@ module _ (b : Book) (tidy : TidyBook b) where
           (ap (λ (x : Book). getD (x .files) (i + 1) past) s
           ∙ over-at past shrunk (b .files) i (i + 1) (omega arith) (omega (arith, shrunk-length, tidy .few))
           ∙ ap (λ (fs : List File). getD fs (i + 1) past) (split b tidy)
-          ∙ sym (removed-next past at (filesOf b) (spare (mostFiles - (b .count - 1))) (spare (mostFiles - b .count)) within i k (omega (arith, count-files b tidy))))
+          ∙ sym (removed-next past at (filesOf b) (spare (mostFiles - (b .count - 1))) (spare (mostFiles - b .count)) within i k (omega (arith, count-is b tidy))))
 
     -- the last place is blank then
     pub shrink-end : (c : Book) (i : ℕ) (none : File) → c ≡ shrinking i → i ≡ b .count - 1 → none ≡ blankFile

@@ -3,7 +3,7 @@ ghost use mathlib.Core.Path.{_≡_};
 ghost use Prim.Native.Nat.{_≤_, _<_};
 ghost use Rattle.lists.specs.Shift.{inserted, removed};
 ghost use Rattle.book.specs.Book.{mostFiles, filesOf, bookOf};
-ghost use Rattle.book_files.specs.Places.{TidyBook};
+ghost use Rattle.book.specs.Laws.{TidyBook};
 use book::Book;
 use premise::File;
 

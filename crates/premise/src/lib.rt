@@ -12,6 +12,9 @@ pub const MOST_WAITED: u8 = 21;
 
 pub const MOST_PENDING: u8 = 7;
 
+// The retailer of a premise that is de-energized.
+pub const NOBODY: u32 = 0;
+
 // The statuses of an order. They are numbers with names, and no enum, since a damaged book can hold any number.
 pub const IN_REVIEW: u8 = 1;
 

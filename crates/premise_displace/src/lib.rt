@@ -68,7 +68,7 @@ pub fn displace(last: u16, file: File, o: Order, standing: usize, buffer: &mut [
             sent: standing,
         };
     }
-    if file.retailer != 0 {
+    if file.retailer != premise::NOBODY {
         return premise_changes::cancel(file.premise, file.retailer, o, standing, buffer);
     }
     let t = premise_changes::as_cancelled(o);

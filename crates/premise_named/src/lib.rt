@@ -19,9 +19,6 @@ use premise::SCHEDULED;
 use records::Record;
 use records::record_kind;
 
-// The retailer of a premise that is de-energized.
-pub const NOBODY: u32 = 0;
-
 // Row 13: whether a record cancels another retailer's order.
 fn is_foreign(r: Record, o: Order) -> bool
     ensures { λ b. ⌜ b ≡ isForeign r o ⌝ }
@@ -91,7 +88,7 @@ fn gaining(o: Order) -> u32
     ensures { λ q. ⌜ q ≡ gainingRetailer o ⌝ }
 {
     if o.kind == records::order_kind::MOVE_OUT {
-        return NOBODY;
+        return premise::NOBODY;
     }
     o.retailer
 }

@@ -91,7 +91,7 @@ fn hears_too(told: u8, retailer: u32) -> bool
     if told != 1 {
         return false;
     }
-    retailer != premise_named::NOBODY
+    retailer != premise::NOBODY
 }
 
 // Kind 6: Unexecutable; the submitting retailer is told, and the premise's own where it had been told of the order.

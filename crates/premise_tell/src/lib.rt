@@ -42,7 +42,7 @@ pub fn tell(
     }
     let mut t = o;
     t.told = 1;
-    if retailer == 0 {
+    if retailer == premise::NOBODY {
         return Stepped {
             order: t,
             sent: standing,

@@ -15,7 +15,7 @@ use Rattle.tape_output.specs.declared.Playing.{Playing}
 use Rattle.tape_output.specs.Output.{fileLines, ending}
 use Rattle.tape_output.specs.Stretches.{endingMost, Ready}
 use Rattle.tape_output.proofs.Lines.{ending-most}
-use Rattle.tape_output.proofs.Putting.{Putting, putting-none, putting-length, putting-room, putting-more, putting-last}
+use Rattle.tape_numbers.proofs.Putting.{Putting, putting-none, putting-length, putting-room, putting-more, putting-last}
 
 abbrev pub lineOf : File → List ℕ
 lineOf f = fileLine (f .premise) (f .retailer) (f .since)
@@ -38,8 +38,8 @@ unfolding ending
 filed-none p start b ready room =
     let k = book-kept-means (p .book) .0 (ready .kept) in
     record {
-      few = k .few;
-      held = omega (arith, count-is (p .book) k, length-take (p .book .count) (p .book .files));
+      few = k .tidy .few;
+      held = omega (arith, count-is (p .book) (k .tidy), length-take (p .book .count) (p .book .files));
       room = omega (arith, ending-most p ready);
       put = putting-none (ending p) start b;
     }

@@ -1,5 +1,6 @@
 // A tape played from its bytes, and its text written over C's write. The work stands in `tape_player`, which is handed bytes.
-ghost use Prim.Native.Nat.{_≤_};
+ghost use mathlib.Core.Path.{_≡_};
+ghost use Prim.Native.Nat.{_≤_, min};
 ghost use lib.ListN.{length};
 ghost use Rattle.tape_output.specs.Output.{tapeMost};
 ghost use Rattle.tape_output.specs.Stretches.{Roomy};
@@ -33,7 +34,7 @@ fn play_in(calendar: &[u8], tape: &[u8], notices: &mut [u8], out: &mut [u8]) -> 
 
 // How many bytes of a tape are played.
 fn played_bytes(given: usize) -> usize
-    ensures { λ r. ⌜ (r ≤ given) × (r ≤ tapeMost) ⌝ }
+    ensures { λ r. ⌜ r ≡ min given tapeMost ⌝ }
 {
     if given < TAPE_BYTES {
         given

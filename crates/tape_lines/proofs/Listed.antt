@@ -12,7 +12,7 @@ use Rattle.tape_text.specs.Text.{noticeLine}
 use Rattle.tape_text.specs.Lengths.{noticeLineMost}
 use Rattle.tape_output.specs.Output.{rowLines}
 use Rattle.tape_output.proofs.Lines.{buffer-lines-most}
-use Rattle.tape_output.proofs.Putting.{Putting, putting-none, putting-length, putting-room, putting-more, putting-all}
+use Rattle.tape_numbers.proofs.Putting.{Putting, putting-none, putting-length, putting-room, putting-more, putting-all}
 
 -- the lines that are left after the first i
 abbrev pub linesFrom : List ℕ → ℕ → ℕ → List ℕ

@@ -1,5 +1,6 @@
 pub mod Digits
 pub mod Puts
 pub mod Filled
+pub mod Putting
 pub mod Lined
 pub mod Lengths

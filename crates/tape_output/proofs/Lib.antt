@@ -2,4 +2,3 @@ pub mod Calls
 pub mod Lines
 pub mod Left
 pub mod Stretches
-pub mod Putting

@@ -1,16 +1,16 @@
 -- How long a record's text can be, and the end's. Assumes nothing.
 use Prim.Native.Nat.{ℕ, zero, suc, _+_, _*_, _≤_, _<_}
 use mathlib.Core.Path.{_≡_, refl, ap}
-use mathlib.Core.List.{List, [], _∷_}
+use mathlib.Core.List.{List, [], _∷_, map}
 use native.Mathlib.Omega.{arith}
-use lib.ListN.{length, take, drop, length-append}
+use lib.ListN.{length, take, drop, length-append, length-map}
 use borrow.Author.Tests.{leb-true}
 use Rattle.lists.specs.Search.{Each}
 use Rattle.days.specs.Days.{lastDay}
 use Rattle.records.specs.declared.Notice.{Notice}
 use Rattle.records.specs.Layout.{recordLength, Bytes}
 use Rattle.records.specs.Records.{lastRetailer}
-use Rattle.records.specs.Notices.{decode, rows}
+use Rattle.records.specs.Notices.{decode, rows, encode}
 use Rattle.records.proofs.Fields.{bytes-drop}
 use Rattle.records.proofs.Notices.{encode-bytes}
 use Rattle.premise.specs.declared.File.{File}
@@ -22,10 +22,10 @@ use Rattle.book.specs.Book.{filesOf}
 use Rattle.book.proofs.Kept.{count-is, book-kept-means}
 use Rattle.tape_text.specs.Text.{recordLine, noticeLine, fileLine, totalLine}
 use Rattle.tape_text.specs.Lengths.{lastAnswer, noticeLineMost, fileLineMost}
-use Rattle.tape_text.proofs.Lengths.{record-line, notice-line-of, file-line-of, total-line}
+use Rattle.tape_text.proofs.Lengths.{record-line, notice-line-of, file-line, total-line}
 use Rattle.tape_reader.specs.Counts.{mostRecords}
 use Rattle.tape_output.specs.declared.Playing.{Playing}
-use Rattle.tape_output.specs.Output.{called, rowLines, noticeRows, recordText, fileLines, ending}
+use Rattle.tape_output.specs.Output.{called, rowLines, recordText, fileLines, ending}
 use Rattle.tape_output.specs.Stretches.{recordTextMost, endingMost, Ready}
 use Rattle.tape_output.proofs.Calls.{called-few}
 
@@ -63,11 +63,7 @@ rows-bytes : (n : ℕ) (buffer : List ℕ) → Bytes buffer → Each Bytes (rows
 rows-bytes zero buffer b = tt
 rows-bytes (suc n) buffer b = (bytes-take recordLength buffer b, rows-bytes n (drop recordLength buffer) (bytes-drop recordLength buffer b))
 
-encoded-length : (xs : List Notice) → length (noticeRows xs) ≡ length xs
-encoded-length [] = refl
-encoded-length (x ∷ xs) = ap suc (encoded-length xs)
-
-encoded-bytes : (xs : List Notice) → Each Bytes (noticeRows xs)
+encoded-bytes : (xs : List Notice) → Each Bytes (map encode xs)
 encoded-bytes [] = tt
 encoded-bytes (x ∷ xs) = (encode-bytes x, encoded-bytes xs)
 
@@ -89,10 +85,10 @@ record-text-most calendar p bytes left =
     let few = called-few calendar p bytes in
     omega (
       arith,
-      length-append (recordLine place answer (length notices)) (rowLines (noticeRows notices)),
+      length-append (recordLine place answer (length notices)) (rowLines (map encode notices)),
       record-line place answer (length notices) (omega arith) (number-most (called calendar p bytes .answer)) few,
-      row-lines-most (noticeRows notices) (encoded-bytes notices),
-      encoded-length notices,
+      row-lines-most (map encode notices) (encoded-bytes notices),
+      length-map notices encode,
     )
 
 -- ---- the end
@@ -102,7 +98,7 @@ file-lines-most (f ∷ fs) k =
     omega (
       arith,
       length-append (fileLine (f .premise) (f .retailer) (f .since)) (fileLines fs),
-      file-line-of (f .premise) (f .retailer) (f .since)
+      file-line (f .premise) (f .retailer) (f .since)
           (omega (arith, leb-true (f .retailer) lastRetailer (k .0 .retailer)))
           (omega (arith, leb-true (f .since) lastDay (k .0 .since))),
       file-lines-most fs (k .1),
@@ -116,7 +112,7 @@ ending-most p ready =
       arith,
       length-append (fileLines (filesOf (p .book))) (totalLine (p .reader .accepted) (p .reader .refused)),
       file-lines-most (filesOf (p .book)) (k .files),
-      count-is (p .book) k,
-      k .few,
+      count-is (p .book) (k .tidy),
+      k .tidy .few,
       total-line (p .reader .accepted) (p .reader .refused) (omega (arith, ready .sound, ready .within)) (omega (arith, ready .sound, ready .within)),
     )

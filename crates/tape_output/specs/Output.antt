@@ -1,9 +1,8 @@
 -- Document 01, "The tape program": what it prints, from the calendar and the tape. The answers, the notices and the book are those of
 -- the single calls, in order; the lines are those of `tape_text`.
 use Prim.Native.Nat.{ℕ, zero, suc, _+_, _*_}
-use mathlib.Core.List.{List, [], _∷_, _++_}
+use mathlib.Core.List.{List, [], _∷_, _++_, map}
 use lib.ListN.{length, take, drop, replicate}
-use Rattle.records.specs.declared.Notice.{Notice}
 use Rattle.records.specs.Layout.{recordLength}
 use Rattle.records.specs.Notices.{encode, decode}
 use Rattle.premise.specs.declared.File.{File}
@@ -48,12 +47,8 @@ abbrev pub rowLines : List (List ℕ) → List ℕ
 rowLines [] = []
 rowLines (row ∷ rows) = noticeLine (decode row) ++ rowLines rows
 
-abbrev pub noticeRows : List Notice → List (List ℕ)
-noticeRows [] = []
-noticeRows (x ∷ xs) = encode x ∷ noticeRows xs
-
 abbrev pub resultText : ℕ → Result → List ℕ
-resultText place r = recordLine place (number (r .answer)) (length (r .notices)) ++ rowLines (noticeRows (r .notices))
+resultText place r = recordLine place (number (r .answer)) (length (r .notices)) ++ rowLines (map encode (r .notices))
 
 unfoldable pub recordText : List ℕ → Playing → List ℕ → List ℕ
 recordText calendar p bytes = resultText (p .reader .place + 1) (called calendar p bytes)

@@ -10,7 +10,7 @@ use tape_output::Playing;
 use tape_output::Stretch;
 
 // The most bytes of text that a record can take: its line, and 1,024 lines of notices.
-pub const MOST_RECORD_TEXT: usize = 61_453;
+pub const MOST_RECORD_TEXT: usize = 60_429;
 
 // The smaller of two numbers.
 fn least(a: usize, b: usize) -> usize
@@ -77,7 +77,7 @@ pub fn play_on(
                 }
             }
             Look::Other => {
-                let reply = book_calls::kept_call(calendar, b, bytes, notices);
+                let reply = book_records::on_bytes(calendar, b, bytes, notices);
                 answer = reply.answer;
                 sent = reply.sent;
                 b = reply.book;

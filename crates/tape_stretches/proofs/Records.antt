@@ -1,10 +1,9 @@
 -- A record that is played: what its call returned is what the definition says, and its lines are its text. Assumes nothing.
 use Prim.Native.Nat.{ℕ, _+_, _*_, _≤_}
-use mathlib.Core.Path.{_≡_, refl, ap, _∙_}
-use mathlib.Core.List.{List, [], _∷_, _++_, map}
+use mathlib.Core.Path.{_≡_, ap, _∙_}
+use mathlib.Core.List.{List, _++_, map}
 use native.Mathlib.Omega.{arith}
 use lib.ListN.{length}
-use Rattle.records.specs.declared.Notice.{Notice}
 use Rattle.records.specs.Layout.{recordLength}
 use Rattle.records.specs.Notices.{encode, rows, Emits}
 use Rattle.records.proofs.Emits.{emits-as, emits-rows, emits-length}
@@ -19,20 +18,16 @@ use Rattle.tape_numbers.proofs.Puts.{puts-as}
 use Rattle.tape_reader.specs.declared.Reader.{Reader}
 use Rattle.tape_reader.specs.Counts.{counted}
 use Rattle.tape_output.specs.declared.Playing.{Playing}
-use Rattle.tape_output.specs.Output.{called, playedOn, rowLines, noticeRows, recordText}
+use Rattle.tape_output.specs.Output.{called, playedOn, rowLines, recordText}
 use Rattle.tape_output.specs.Stretches.{Ready}
 use Rattle.tape_output.proofs.Calls.{called-lent, called-few, played-place}
-
-encoded : (xs : List Notice) → map encode xs ≡ noticeRows xs
-encoded [] = refl
-encoded (x ∷ xs) = ap (λ (l : List (List ℕ)). encode x ∷ l) (encoded xs)
 
 -- what the call of a record returned, and the buffer
 pub record Answered (calendar : List ℕ) (p : Playing) (bytes : List ℕ) (reply : Reply) (after : List ℕ) : Type 0 where
   pub answer : reply .answer ≡ called calendar p bytes .answer
   pub book : reply .book ≡ called calendar p bytes .book
   pub count : reply .sent ≡ length (called calendar p bytes .notices)
-  pub listed : rows (reply .sent) after ≡ noticeRows (called calendar p bytes .notices)
+  pub listed : rows (reply .sent) after ≡ map encode (called calendar p bytes .notices)
   pub few : reply .sent ≤ mostNotices
   pub held : recordLength * reply .sent ≤ length after
 
@@ -47,7 +42,7 @@ answered calendar p bytes lent reply after ready room promised =
       answer = promised .answer ∙ ap (λ (r : Result). r .answer) same;
       book = promised .book ∙ ap (λ (r : Result). r .book) same;
       count = emits .count;
-      listed = emits-rows emits ∙ encoded (result .notices);
+      listed = emits-rows emits;
       few = omega (arith, emits .count);
       held = omega (arith, emits .count, emits-length emits (omega arith));
     }

@@ -2,6 +2,7 @@
 use Prim.Native.Nat.{ℕ, _+_, _≤_, _<_}
 use mathlib.Core.Path.{_≡_, sym, ap, subst, subst⁻¹, _∙_}
 use mathlib.Core.List.{List}
+use mathlib.Core.Option.{some}
 use mathlib.Core.Bool.{Bool, true, false}
 use native.Mathlib.Omega.{arith}
 use lib.ListN.{length, getD, set, length-map}
@@ -21,12 +22,11 @@ use Rattle.premise_quiet.specs.Quiet.{touched}
 use Rattle.book.specs.declared.Book.{Book}
 use Rattle.book.specs.declared.Reply.{Reply}
 use Rattle.book.specs.Book.{mostFiles, filesOf, bookKept}
-use Rattle.book.specs.Calls.{noticeBytes, markedNotices}
-use Rattle.book.specs.Laws.{BookKept, withFileAt, numbersOf}
+use Rattle.book.specs.Calls.{noticeBytes, markedNotices, givenOn}
+use Rattle.book.specs.Laws.{BookKept, withFileAt, numbersOf, TidyBook}
 use Rattle.book.specs.Promise.{Promised}
 use Rattle.book.proofs.Kept.{book-kept-means}
-use Rattle.book_files.specs.Places.{TidyBook}
-use Rattle.book_files.proofs.Tidy.{past, withPlaces, tidy-kept, length-files}
+use Rattle.book_files.proofs.Tidy.{past, withPlaces, length-files}
 use Rattle.book_marks.proofs.Marks.{Sofar, sofar-none, sofar-tidy, sofar-room, sofar-turn, sofar-still, sofar-book, sofar-wrote}
 use Rattle.book_marks.proofs.OnMark.{mark-asks}
 use Rattle.book_look.specs.declared.Look.{Look}
@@ -34,7 +34,7 @@ use Rattle.book_look.specs.declared.Look.the-variants.{Refused, Held, NextDay}
 use Rattle.book_look.specs.LookUp.{lookUp, Known, KnownHeld}
 use Rattle.book_look.proofs.LookUp.{look-up-knows}
 use Rattle.book_in_place.specs.declared.HeldReply.{HeldReply}
-use Rattle.book_in_place.specs.Held.{HeldReady, heldGiven, HeldGives}
+use Rattle.book_in_place.specs.Held.{HeldReady, HeldGives}
 use Rattle.book_in_place.specs.InPlace.{InPlace}
 use Rattle.book_in_place.proofs.Ready.{book-ready}
 use Rattle.book_in_place.proofs.InPlace.{refused-in-place, held-in-place, marked-in-place}
@@ -67,10 +67,14 @@ module _ {b : Book} {numbers buffer : List ℕ} (t : Standing b numbers buffer) 
 
   -- each place has its number
   pub each-place : mostFiles ≡ length numbers
-  each-place = sym (ap length (t .own) ∙ length-map (b .files) (λ (f : File). f .premise) ∙ length-files b (tidy-kept b kept))
+  each-place = sym (ap length (t .own) ∙ length-map (b .files) (λ (f : File). f .premise) ∙ length-files b (kept .tidy))
 
   pub look-asks : (b .today ≤ lastDay) × (b .count ≤ length numbers)
-  look-asks = (kept .today, omega (arith, each-place, kept .few))
+  look-asks = (kept .today, omega (arith, each-place, kept .tidy .few))
+
+  -- what a record asks that hands the book over
+  pub call-asks : BookKept b × (noticeBytes ≤ length buffer)
+  call-asks = (kept, t .room)
 
   -- ---- by what its look-up found
   module _ (bytes : List ℕ) {look : Look} (e : look ≡ lookUp bytes (b .today) numbers (b .count)) where
@@ -91,12 +95,12 @@ module _ {b : Book} {numbers buffer : List ℕ} (t : Standing b numbers buffer) 
       found = known (Held at r) is
 
       pub held-place : at < mostFiles
-      held-place = omega (arith, found .held .within, kept .few)
+      held-place = omega (arith, found .held .within, kept .tidy .few)
 
       pub held-asks : HeldReady (getD (b .files) at past) r buffer
       held-asks = book-ready b bytes buffer r at past (t .kept) (t .room) found
 
-      pub by-file : {calendar : List ℕ} (reply : HeldReply) {after : List ℕ} → HeldGives (heldGiven calendar (b .today) (getD (b .files) at past) r) reply buffer after
+      pub by-file : {calendar : List ℕ} (reply : HeldReply) {after : List ℕ} → HeldGives (givenOn calendar (b .today) (some (getD (b .files) at past)) r) reply buffer after
           → Made calendar b bytes buffer (record { answer = reply .answer; sent = reply .sent; book = withFileAt b at (reply .file); numbers = numbers; buffer = after })
       by-file {calendar} reply {after} gives = in-place (held-in-place calendar b bytes buffer after r at past reply (t .kept) (t .room) found gives)
 
@@ -104,7 +108,7 @@ module _ {b : Book} {numbers buffer : List ℕ} (t : Standing b numbers buffer) 
         → Sofar calendar day (b .count) (b .files) buffer i sent c after → b .count ≤ i
         → Made calendar b bytes buffer (record { answer = Accepted; sent = sent; book = c; numbers = numbers; buffer = after })
     by-marks {calendar} {day} is {i} {sent} {c} {after} s end =
-        let tidy = tidy-kept b kept in
+        let tidy = kept .tidy in
         in-place
         (marked-in-place calendar b bytes buffer after day sent c (t .kept) (t .room) (known (NextDay day) is)
         (sofar-book calendar day b tidy buffer i sent c after s end) (sofar-wrote calendar day b tidy buffer i sent c after s end))
@@ -127,7 +131,7 @@ module _ {calendar : List ℕ} {day count : ℕ} {files : List File} {numbers bu
   book = record { today = m .today; count = count; files = files }
 
   pub mark-place : i < mostFiles
-  mark-place = omega (arith, h, kept (m .standing) .few)
+  mark-place = omega (arith, h, kept (m .standing) .tidy .few)
 
   asks : TidyBook book × Each Tidy (filesOf book) × Room 0 (markedNotices calendar day (filesOf book)) buffer
   asks = mark-asks calendar book day buffer (kept (m .standing)) (m .standing .room)

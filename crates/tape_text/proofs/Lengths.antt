@@ -1,5 +1,5 @@
 -- How long the lines can be: each number of a line below a power of ten has at most so many digits. Assumes nothing.
-use Prim.Native.Nat.{ℕ, _+_, _≤_, _<_}
+use Prim.Native.Nat.{ℕ, _+_, _≤_}
 use mathlib.Core.Path.{_≡_}
 use mathlib.Core.List.{List, [], _∷_}
 use native.Mathlib.Omega.{arith}
@@ -11,15 +11,12 @@ use Rattle.tape_numbers.specs.Numbers.{decimal, spaced}
 use Rattle.tape_numbers.proofs.Digits.{decimal-within, decimal-below}
 use Rattle.tape_numbers.proofs.Lengths.{spaced-more}
 use Rattle.tape_text.specs.Text.{recordLine, noticeLine, fileLine, totalLine}
-use Rattle.tape_text.specs.Lengths.{noticeLineMost, fileLineMost, AnyRecordLine, RecordLine, NoticeLine, FileLine, TotalLine}
+use Rattle.tape_text.specs.Lengths.{noticeLineMost, RecordLine, NoticeLine, FileLine, TotalLine}
 
 record-length : (place answer n : ℕ) → length (recordLine place answer n) ≡ length (decimal place) + length (decimal answer) + length (decimal n) + 3
 unfolding recordLine
 record-length place answer n =
     omega (arith, length-append (decimal place) (spaced (answer ∷ n ∷ [])), spaced-more answer (n ∷ []), spaced-more n [])
-
-pub any-record-line : AnyRecordLine
-any-record-line place answer n = omega (arith, record-length place answer n, decimal-within place, decimal-within answer, decimal-within n)
 
 pub record-line : RecordLine
 record-line place answer n p a m =
@@ -48,10 +45,9 @@ notice-line x fits =
 pub notice-line-of : (bytes : List ℕ) → Bytes bytes → length (noticeLine (decode bytes)) ≤ noticeLineMost
 notice-line-of bytes b = notice-line (decode bytes) (decode-fits bytes b)
 
--- whatever the premise's number, since it has at most 20 digits
-pub file-line-of : (premise retailer since : ℕ) → retailer < 4294967296 → since < 65536 → length (fileLine premise retailer since) ≤ fileLineMost
+pub file-line : FileLine
 unfolding fileLine
-file-line-of premise retailer since r s =
+file-line premise retailer since r s =
     omega (
       arith,
       spaced-more premise (retailer ∷ since ∷ []),
@@ -61,9 +57,6 @@ file-line-of premise retailer since r s =
       decimal-below 9 retailer (omega arith),
       decimal-below 4 since (omega arith),
     )
-
-pub file-line : FileLine
-file-line premise retailer since p r s = file-line-of premise retailer since r s
 
 pub total-line : TotalLine
 unfolding totalLine

@@ -3,11 +3,8 @@ use Prim.Native.Nat.{ℕ, _≤_, _<_}
 use lib.ListN.{length}
 use Rattle.records.specs.declared.Notice.{Notice}
 use Rattle.records.specs.Notices.{FitsFields}
+use Rattle.tape_reader.specs.Counts.{mostRecords}
 use Rattle.tape_text.specs.Text.{recordLine, noticeLine, fileLine, totalLine}
-
--- The first 65,520 bytes of a tape hold at most so many records.
-abbrev pub mostRecords : ℕ
-mostRecords = 2730
 
 -- the last number of the table of answers
 abbrev pub lastAnswer : ℕ
@@ -17,14 +14,6 @@ lastAnswer = 15
 abbrev pub mostNotices : ℕ
 mostNotices = 1024
 
--- a record's line, for any numbers: three of 20 digits, two spaces, the end
-abbrev pub anyRecordLineMost : ℕ
-anyRecordLineMost = 63
-
-abbrev pub AnyRecordLine : Type 0
-AnyRecordLine = (place answer n : ℕ) → length (recordLine place answer n) ≤ anyRecordLineMost
-
--- .. and for those of a tape
 abbrev pub recordLineMost : ℕ
 recordLineMost = 13
 
@@ -32,7 +21,7 @@ abbrev pub RecordLine : Type 0
 RecordLine = (place answer n : ℕ) → place ≤ mostRecords → answer ≤ lastAnswer → n ≤ mostNotices → length (recordLine place answer n) ≤ recordLineMost
 
 abbrev pub noticeLineMost : ℕ
-noticeLineMost = 60
+noticeLineMost = 59
 
 abbrev pub NoticeLine : Type 0
 NoticeLine = (x : Notice) → FitsFields x → length (noticeLine x) ≤ noticeLineMost
@@ -40,11 +29,12 @@ NoticeLine = (x : Notice) → FitsFields x → length (noticeLine x) ≤ noticeL
 abbrev pub fileLineMost : ℕ
 fileLineMost = 40
 
+-- whatever the premise's number, since it has at most 20 digits
 abbrev pub FileLine : Type 0
-FileLine = (premise retailer since : ℕ) → premise < 18446744073709551616 → retailer < 4294967296 → since < 65536 → length (fileLine premise retailer since) ≤ fileLineMost
+FileLine = (premise retailer since : ℕ) → retailer < 4294967296 → since < 65536 → length (fileLine premise retailer since) ≤ fileLineMost
 
 abbrev pub totalLineMost : ℕ
-totalLineMost = 13
+totalLineMost = 12
 
 abbrev pub TotalLine : Type 0
 TotalLine = (accepted refused : ℕ) → accepted ≤ mostRecords → refused ≤ mostRecords → length (totalLine accepted refused) ≤ totalLineMost

@@ -1,6 +1,7 @@
--- `book_files::replace` meets its contract: a file stored over another, by the law `replaced`. Assumes nothing.
+-- `book_files::replace` meets its contract: a file stored over another, by the law `stored`. Assumes nothing.
+use mathlib.Core.Path.{sym}
 use borrow.Author.Needs.{needs}
-use Rattle.book_files.proofs.Tidy.{replaced}
+use Rattle.book.proofs.Kept.{stored}
 use Rattle.book_files.proofs.replace.Statement.{statement}
 use Rattle.book_files.proofs.replace.Tie as tie
 
@@ -11,7 +12,7 @@ element-set-from-f : tie.Need-element-set-from-f
 element-set-from-f c = search needs
 
 returns : tie.Need-returns
-returns c = replaced (c .args .b) (c .pre .0) (c .args .at) (c .args .f) (c .pre .1)
+returns c = sym (stored (c .args .b) (c .pre .0) (c .args .at) (c .args .f) (c .pre .1))
 
 pub replace-spec : {M : Type 1} → statement M
 replace-spec = tie.close (tie.spec mul-f element-set-from-f returns)

@@ -9,10 +9,12 @@ use Rattle.records.specs.Records.{kindDayMark}
 use Rattle.records.proofs.Formed.{formed}
 use Rattle.records.proofs.Readings.{says}
 use Rattle.premise.specs.declared.Answer.the-variants.{MalformedRecord}
-use Rattle.book.specs.Calls.{refusal}
-use Rattle.book_replies.specs.Parts.{onDayMark, onOther}
+use Rattle.book.specs.Calls.{refusal, onDayMark}
+use Rattle.book.proofs.ByReading.{call-malformed, call-on-mark}
+use Rattle.book.proofs.Kept.{book-kept-means}
+use Rattle.book_replies.specs.Parts.{onOther}
 use Rattle.book_replies.proofs.Refusals.{gives-refusal, promised}
-use Rattle.book_records.proofs.Rows.{call-malformed, call-mark, call-other}
+use Rattle.book_records.proofs.Rows.{call-other}
 use Rattle.book_records.proofs.on_bytes.Statement.{statement}
 use Rattle.book_records.proofs.on_bytes.Tie as tie
 
@@ -53,7 +55,7 @@ returns c =
     let s = w .before .before .before .before in
     let a = s .args in
     promised (a .calendar .now) (a .b) (a .bytes .now) (a .buffer .now) (refusal MalformedRecord (a .b)) (c .refuse .result) (a .buffer .now)
-    (call-malformed (a .calendar .now) (a .b) (a .bytes .now) (a .buffer .now) (s .pre .0) (s .pre .1) (sym (w .read-record .ensures) ∙ d .enum-told .given .1))
+    (call-malformed (a .calendar .now) (a .b) (a .bytes .now) (a .buffer .now) (book-kept-means (a .b) .1 (s .pre .0)) (s .pre .1) (sym (w .read-record .ensures) ∙ d .enum-told .given .1))
     (gives-refusal MalformedRecord (a .b) (c .refuse .result) (a .buffer .now) (c .refuse .ensures))
 
 same-length : tie.Need-same-length
@@ -88,7 +90,7 @@ returns-3 c =
     let kinds = formed r (says (a .bytes .now) r e .formed) .kind in
     let mark : r .kind ≡ kindDayMark = ⊎-elim (λ t. omega (arith, t .taken, kinds .given)) (λ t. omega (arith, t .1 .left, kinds .within)) (j .if1 .came) in
     promised (a .calendar .now) (a .b) (a .bytes .now) (a .buffer .now) (onDayMark (a .calendar .now) (a .b) r) (m .on-mark .result) _
-    (call-mark (a .calendar .now) (a .b) (a .bytes .now) (a .buffer .now) (s .pre .0) (s .pre .1) r e (eq-eqb (r .kind) kindDayMark mark))
+    (call-on-mark (a .calendar .now) (a .b) (a .bytes .now) (a .buffer .now) r (book-kept-means (a .b) .1 (s .pre .0)) (s .pre .1) e (eq-eqb (r .kind) kindDayMark mark))
     (m .on-mark .ensures)
 
 pub on-bytes-spec : {M : Type 1} → statement M

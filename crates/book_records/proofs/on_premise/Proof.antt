@@ -1,13 +1,12 @@
 -- `book_records::on_premise` meets its contract: the file at the premise's place is the premise's, or the premise has none. Assumes nothing.
 use native.Mathlib.Omega.{arith}
 use borrow.Author.Needs.{needs}
-use Rattle.book_files.proofs.Tidy.{tidy-kept}
 use Rattle.book_records.proofs.Place.{past-last, another-there, it-is-there}
 use Rattle.book_records.proofs.on_premise.Statement.{statement}
 use Rattle.book_records.proofs.on_premise.Tie as tie
 
 place-requires : tie.Need-place-requires
-place-requires c κs = let s = c .before .before in tidy-kept (s .args .t2) (s .pre .kept)
+place-requires c κs = let s = c .before .before in s .pre .kept .tidy
 
 on-new-requires : tie.Need-on-new-requires
 on-new-requires c κs =
@@ -24,10 +23,10 @@ returns : tie.Need-returns
 returns c = c .before .before .on-new .ensures
 
 mul-f : tie.Need-mul-f
-mul-f c = let s = c .before .before .before .before in omega (arith, c .if1 .left, s .pre .kept .few)
+mul-f c = let s = c .before .before .before .before in omega (arith, c .if1 .left, s .pre .kept .tidy .few)
 
 element-copy-out-f : tie.Need-element-copy-out-f
-element-copy-out-f c = let s = c .before .before .before .before in omega (arith, c .if1 .left, s .pre .kept .few)
+element-copy-out-f c = let s = c .before .before .before .before in omega (arith, c .if1 .left, s .pre .kept .tidy .few)
 
 on-new-requires-2 : tie.Need-on-new-requires-2
 on-new-requires-2 c κs =

@@ -6,7 +6,7 @@ use native.Mathlib.Omega.{arith}
 use Rattle.premise.specs.declared.File.{File}
 use Rattle.book.specs.declared.Book.{Book}
 use Rattle.book.specs.Book.{mostFiles}
-use Rattle.book_files.specs.Places.{TidyBook}
+use Rattle.book.specs.Laws.{TidyBook}
 use Rattle.book_shifts.proofs.Grown.{growing, grownAt, grow-start, grow-first, grow-next, grow-carry, grow-end}
 use Rattle.book_shifts.proofs.insert.Statement.{statement}
 use Rattle.book_shifts.proofs.insert.Tie as tie

@@ -5,7 +5,7 @@ use mathlib.Core.Path.{_≡_, refl}
 use native.Mathlib.Omega.{arith}
 use borrow.Author.Needs.{needs}
 use Rattle.book.specs.declared.Book.{Book}
-use Rattle.book_files.specs.Places.{TidyBook}
+use Rattle.book.specs.Laws.{TidyBook}
 use Rattle.book_shifts.proofs.Shrunk.{shrinking, shrink-start, shrink-next, shrink-end}
 use Rattle.book_shifts.proofs.remove.Statement.{statement}
 use Rattle.book_shifts.proofs.remove.Tie as tie

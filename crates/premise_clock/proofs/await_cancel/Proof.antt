@@ -1,5 +1,5 @@
 -- `premise_clock::await_cancel` meets its contract: the test on the days in Cancel Pending picks the case of `cancelAwaited`. Assumes nothing.
-use mathlib.Core.Path.{sym, ap, _∙_}
+use mathlib.Core.Path.{sym, _∙_}
 use borrow.Author.Needs.{needs}
 use Rattle.premise.specs.Orders.{withPending}
 use Rattle.premise_clock.proofs.Cases.{cancel-ends, cancel-goes-on}

@@ -7,7 +7,7 @@ use native.Mathlib.Omega.{arith}
 use lib.ListN.{length, take, drop}
 use Rattle.book.specs.Book.{mostFiles}
 use Rattle.tape_stretches.proofs.Stretching.{stretching-length, stretching-within, stretching-closes}
-use Rattle.tape_stretches.proofs.Ways.{Made, made-as, each-place, look-asks, by-refusal, held-place, held-asks, by-file, by-marks, Marking, mark-none, mark-place, mark-tidy, mark-room, mark-more, mark-still}
+use Rattle.tape_stretches.proofs.Ways.{Made, made-as, each-place, look-asks, by-refusal, held-place, held-asks, by-file, by-marks, call-asks, Marking, mark-none, mark-place, mark-tidy, mark-room, mark-more, mark-still}
 use Rattle.tape_stretches.proofs.Turns.{of, Turn, turn-none, standing, turn-tells, turn-more}
 use Rattle.tape_player.proofs.play_on.Statement.{statement}
 use Rattle.tape_player.proofs.play_on.Tie as tie
@@ -175,7 +175,7 @@ play-on-spec =
     (λ c. omega (arith, c .before .before .before .loop2-test .taken))
     loop2-again-2
     (λ c. c .match .keys4)
-    (λ c κs. c .before .before .before .before .before .before .before .before .before .loop .inv .played .ready .kept)
+    (λ c κs. call-asks (standing (c .before .before .before .before .before .before .before .before .before .loop .inv)))
     (λ c κs. tt)
     show-requires
     (λ c. omega (arith, played-at c .before .loop .inv .short, played-at c .loop-test .taken))

@@ -1,5 +1,5 @@
 -- A well-kept book: the test and the facts behind it say the same, and a book is made of its day and its files. Assumes nothing.
-use Prim.Native.Nat.{ℕ, zero, suc, _-_, _≤_, _<_, min}
+use Prim.Native.Nat.{ℕ, _-_, _≤_, _<_, min}
 use mathlib.Core.Path.{_≡_, refl, ap, sym, _∙_}
 use mathlib.Core.List.{List, [], _∷_, _++_}
 use mathlib.Core.Bool.{Bool, true}
@@ -9,7 +9,8 @@ use lib.ListN.{length, drop, set, replicate, length-append, length-drop, length-
 use lib.Seq.{take-at, drop-at, length-take-le, set-append-left}
 use borrow.Author.Tests.{eqb-true, leb-true, eq-eqb, le-leb}
 use Rattle.lists.specs.Search.{allOf, Each}
-use Rattle.lists.proofs.TestLaws.{and-left, and-right, pass-each}
+use Rattle.lists.proofs.TestLaws.{pass-each}
+use Rattle.lists.proofs.SearchLaws.{each-of-all, all-of-each, each-map, all-are, all-same}
 use Rattle.days.specs.Days.{lastDay, isDay}
 use Rattle.premise.specs.declared.File.{File}
 use Rattle.premise.specs.Orders.{blankFile}
@@ -22,26 +23,10 @@ use Rattle.book.specs.Laws.{TidyBook, BookKept, BookKeptMeans, HoldsItsF
 
 -- ---- every file of a list
 each-kept : (fs : List File) → allOf fileKept fs ≡ true → Each FileKept fs
-each-kept [] e = tt
-each-kept (f ∷ fs) e = (kept-means f .0 (and-left (fileKept f) (allOf fileKept fs) e), each-kept fs (and-right (fileKept f) (allOf fileKept fs) e))
+each-kept fs e = each-map (λ (f : File). fileKept f ≡ true) FileKept (λ f. kept-means f .0) fs (each-of-all fileKept fs e)
 
 kept-each : (fs : List File) → Each FileKept fs → allOf fileKept fs ≡ true
-kept-each [] u = refl
-kept-each (f ∷ fs) u = rw (kept-means f .1 (u .0)) (kept-each fs (u .1))
-
--- unused places are blank
-blanks : (n : ℕ) (fs : List File) → length fs ≡ n → allOf fileBlank fs ≡ true → fs ≡ replicate n blankFile
-blanks zero [] h e = refl
-blanks zero (f ∷ fs) h e = absurd (omega arith)
-blanks (suc n) [] h e = absurd (omega arith)
-blanks (suc n) (f ∷ fs) h e =
-    let first = blank-means f .0 (and-left (fileBlank f) (allOf fileBlank fs) e) in
-    let rest = blanks n fs (omega arith) (and-right (fileBlank f) (allOf fileBlank fs) e) in
-    cc
-
-are-blank : (n : ℕ) → allOf fileBlank (replicate n blankFile) ≡ true
-are-blank zero = refl
-are-blank (suc n) = rw (blank-means blankFile .1 refl) (are-blank n)
+kept-each fs u = all-of-each fileKept fs (each-map FileKept (λ (f : File). fileKept f ≡ true) (λ f. kept-means f .1) fs u)
 
 -- ---- a book by its day and its files
 pub holds-its-files : HoldsItsFiles
@@ -52,8 +37,10 @@ whole : (b : Book) → b .count ≤ mostFiles → length (b .files) ≡ mostFile
 unfolding bookOf
 whole b few long unused =
     let counted : length (filesOf b) ≡ b .count = length-take-le (b .count) (b .files) (omega arith) in
+    let left : length (drop (b .count) (b .files)) ≡ mostFiles - length (filesOf b) = omega (arith, length-drop (b .count) (b .files)) in
     let rest : drop (b .count) (b .files) ≡ replicate (mostFiles - length (filesOf b)) blankFile =
-    blanks (mostFiles - length (filesOf b)) (drop (b .count) (b .files)) (omega (arith, length-drop (b .count) (b .files))) unused in
+    all-are fileBlank blankFile (λ f. blank-means f .0) (drop (b .count) (b .files)) unused
+    ∙ ap (λ (n : ℕ). replicate n blankFile) left in
     let files : b .files ≡ filesOf b ++ replicate (mostFiles - length (filesOf b)) blankFile = sym (take-append-drop (b .count) (b .files)) ∙ ap (λ l. filesOf b ++ l) rest in
     λ i. record { today = b .today; count = sym counted i; files = files i }
 
@@ -89,7 +76,7 @@ kept-of today fs day few kept rising =
       rising,
       drop-at fs (replicate (mostFiles - length fs) blankFile) (length fs) refl,
     )
-    (are-blank (mostFiles - length fs))
+    (all-same fileBlank blankFile (blank-means blankFile .1 refl) (mostFiles - length fs))
 
 counted : (today : ℕ) (fs : List File) → bookOf today fs .count ≡ length fs
 unfolding bookOf

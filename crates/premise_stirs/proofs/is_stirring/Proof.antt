@@ -1,10 +1,11 @@
 -- `premise_stirs::is_stirring` meets its contract: at each return the tests that led there pick the pass that may change the order. Assumes
 -- nothing.
 use mathlib.Core.Path.{_≡_, sym, _∙_}
+use mathlib.Core.Bool.{Bool, false}
 use borrow.Author.Needs.{needs}
 use Rattle.days.specs.Window.{upTo}
 use Rattle.premise.specs.Orders.{held}
-use Rattle.premise.specs.Evaluation.{displaced}
+use Rattle.premise.specs.Evaluation.{givesWay, displaced}
 use Rattle.premise_displace.proofs.Cases.{displaced-other}
 use Rattle.premise_stirs.specs.Stirs.{stirs}
 use Rattle.premise_stirs.proofs.Stirs.{stirs-due, stirs-permit, stirs-switch, stirs-other}
@@ -34,32 +35,36 @@ is-switch-requires c κs = search needs
 gives-way-requires : tie.Need-gives-way-requires
 gives-way-requires c κs = search needs
 
-returns-3 : tie.Need-returns-3
-returns-3 c =
-    let t = c .before in
+-- a switch, by what `gives_way` answered
+a-switch : (t : tie.Then3) → let a = t .before .before .before .before .before .before .args in
+    (answer : Bool) → answer ≡ givesWay (upTo (a .last)) (held (a .file)) (a .i) (a .o) → answer ≡ stirs (a .today) (a .last) (held (a .file)) (a .i) (a .o)
+a-switch t answer said =
     let e = t .before .before in
     let w = e .before in
     let a = w .before .before .before .args in
-    c .gives-way .ensures
-    ∙ stirs-switch (a .today) (a .last) (held (a .file)) (a .i) (a .o) (w .before .if1 .left) (sym (w .is-due .ensures) ∙ e .if2 .left) (sym (t .before .is-switch .ensures) ∙ t .if3 .taken)
+    said ∙ stirs-switch (a .today) (a .last) (held (a .file)) (a .i) (a .o) (w .before .if1 .left) (sym (w .is-due .ensures) ∙ e .if2 .left) (sym (t .before .is-switch .ensures) ∙ t .if3 .taken)
 
--- any other order than a switch
+returns-3 : tie.Need-returns-3
+returns-3 c = a-switch (c .before) (c .gives-way .result) (c .gives-way .ensures)
+
+-- any other order, by whether it is displaced
 no-switch : (t : tie.Else3) → let a = t .before .before .before .before .before .before .args in
-    displaced (upTo (a .last)) (held (a .file)) (a .o) ≡ stirs (a .today) (a .last) (held (a .file)) (a .i) (a .o)
-no-switch t =
+    (answer : Bool) → answer ≡ displaced (upTo (a .last)) (held (a .file)) (a .o) → answer ≡ stirs (a .today) (a .last) (held (a .file)) (a .i) (a .o)
+no-switch t answer said =
     let e = t .before .before in
     let w = e .before in
     let a = w .before .before .before .args in
-    stirs-other (a .today) (a .last) (held (a .file)) (a .i) (a .o) (w .before .if1 .left) (sym (w .is-due .ensures) ∙ e .if2 .left) (sym (t .before .is-switch .ensures) ∙ t .if3 .left)
+    said
+    ∙ stirs-other (a .today) (a .last) (held (a .file)) (a .i) (a .o) (w .before .if1 .left) (sym (w .is-due .ensures) ∙ e .if2 .left) (sym (t .before .is-switch .ensures) ∙ t .if3 .left)
 
 returns-4 : tie.Need-returns-4
-returns-4 c = displaced-other _ _ _ (c .if4 .taken) ∙ no-switch (c .before .before)
+returns-4 c = no-switch (c .before .before) false (displaced-other _ _ _ (c .if4 .taken))
 
 is-displaced-requires : tie.Need-is-displaced-requires
 is-displaced-requires c κs = search needs
 
 returns-5 : tie.Need-returns-5
-returns-5 c = c .is-displaced .ensures ∙ no-switch (c .before .before .before)
+returns-5 c = no-switch (c .before .before .before) (c .is-displaced .result) (c .is-displaced .ensures)
 
 pub is-stirring-spec : {M : Type 1} → statement M
 is-stirring-spec =

@@ -9,7 +9,7 @@ use Rattle.records.specs.Layout.{recordLength, Bytes}
 use Rattle.records.specs.Notices.{decode, rows}
 use Rattle.tape_numbers.specs.Numbers.{Puts}
 use Rattle.tape_text.specs.Text.{noticeLine}
-use Rattle.tape_text.specs.Lengths.{noticeLineMost}
+use Rattle.tape_lengths.specs.Lengths.{noticeLineMost}
 use Rattle.tape_output.specs.Output.{rowLines}
 use Rattle.tape_output.proofs.Lines.{buffer-lines-most}
 use Rattle.tape_numbers.proofs.Putting.{Putting, putting-none, putting-length, putting-room, putting-more, putting-all}

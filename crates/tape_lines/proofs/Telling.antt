@@ -10,9 +10,9 @@ use Rattle.premise.specs.declared.Answer.{Answer}
 use Rattle.premise.specs.Refusals.{number}
 use Rattle.tape_numbers.specs.Numbers.{Puts}
 use Rattle.tape_text.specs.Text.{recordLine}
-use Rattle.tape_text.specs.Lengths.{mostNotices, recordLineMost, noticeLineMost}
+use Rattle.tape_lengths.specs.Lengths.{mostNotices, recordLineMost, noticeLineMost}
 use Rattle.tape_numbers.proofs.Puts.{puts-as, puts-length, puts-then}
-use Rattle.tape_text.proofs.Lengths.{record-line}
+use Rattle.tape_lengths.proofs.Lengths.{record-line}
 use Rattle.tape_reader.specs.declared.Reader.{Reader}
 use Rattle.tape_reader.specs.Counts.{counted, Within}
 use Rattle.tape_reader.proofs.Counts.{counted-place}

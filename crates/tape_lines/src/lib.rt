@@ -8,7 +8,7 @@ ghost use Rattle.records.specs.Notices.{rows};
 ghost use Rattle.premise.specs.Refusals.{number};
 ghost use Rattle.tape_numbers.specs.Numbers.{Puts};
 ghost use Rattle.tape_text.specs.Text.{recordLine};
-ghost use Rattle.tape_text.specs.Lengths.{mostNotices, noticeLineMost};
+ghost use Rattle.tape_lengths.specs.Lengths.{mostNotices, noticeLineMost};
 ghost use Rattle.tape_reader.specs.Counts.{counted, Within};
 ghost use Rattle.tape_output.specs.Output.{rowLines};
 ghost use Rattle.tape_output.specs.Stretches.{recordTextMost};

@@ -14,7 +14,7 @@ use Rattle.book.proofs.Rows.{record-decides}
 use Rattle.book.proofs.Keeps.{call-keeps}
 use Rattle.book.proofs.Kept.{fresh-kept}
 use Rattle.book.proofs.Few.{call-few}
-use Rattle.tape_text.specs.Lengths.{mostNotices}
+use Rattle.tape_lengths.specs.Lengths.{mostNotices}
 use Rattle.tape_reader.specs.Counts.{mostRecords}
 use Rattle.tape_reader.proofs.Counts.{counted-sound, counted-place}
 use Rattle.tape_output.specs.declared.Playing.{Playing}

@@ -21,8 +21,8 @@ use Rattle.premise.specs.WellKept.{FileKept}
 use Rattle.book.specs.Book.{filesOf}
 use Rattle.book.proofs.Kept.{count-is, book-kept-means}
 use Rattle.tape_text.specs.Text.{recordLine, noticeLine, fileLine, totalLine}
-use Rattle.tape_text.specs.Lengths.{lastAnswer, noticeLineMost, fileLineMost}
-use Rattle.tape_text.proofs.Lengths.{record-line, notice-line-of, file-line, total-line}
+use Rattle.tape_lengths.specs.Lengths.{lastAnswer, noticeLineMost, fileLineMost}
+use Rattle.tape_lengths.proofs.Lengths.{record-line, notice-line-of, file-line, total-line}
 use Rattle.tape_reader.specs.Counts.{mostRecords}
 use Rattle.tape_output.specs.declared.Playing.{Playing}
 use Rattle.tape_output.specs.Output.{called, rowLines, recordText, fileLines, ending}

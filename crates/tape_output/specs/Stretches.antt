@@ -10,7 +10,7 @@ use Rattle.records.specs.Layout.{recordLength}
 use Rattle.book.specs.Book.{mostFiles, bookKept}
 use Rattle.book.specs.Calls.{noticeBytes}
 use Rattle.tape_numbers.specs.Numbers.{Puts}
-use Rattle.tape_text.specs.Lengths.{mostNotices, recordLineMost, noticeLineMost, fileLineMost, totalLineMost}
+use Rattle.tape_lengths.specs.Lengths.{mostNotices, recordLineMost, noticeLineMost, fileLineMost, totalLineMost}
 use Rattle.tape_reader.specs.Counts.{mostRecords, Sound}
 use Rattle.tape_output.specs.declared.Playing.{Playing}
 use Rattle.tape_output.specs.declared.Stretch.{Stretch}

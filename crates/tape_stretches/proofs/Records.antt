@@ -13,7 +13,7 @@ use Rattle.book.specs.Calls.{Result, noticeBytes}
 use Rattle.book.specs.Promise.{Promised}
 use Rattle.tape_numbers.specs.Numbers.{Puts}
 use Rattle.tape_text.specs.Text.{recordLine}
-use Rattle.tape_text.specs.Lengths.{mostNotices}
+use Rattle.tape_lengths.specs.Lengths.{mostNotices}
 use Rattle.tape_numbers.proofs.Puts.{puts-as}
 use Rattle.tape_reader.specs.declared.Reader.{Reader}
 use Rattle.tape_reader.specs.Counts.{counted}

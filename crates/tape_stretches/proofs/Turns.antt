@@ -13,7 +13,7 @@ use Rattle.book.specs.Laws.{numbersOf}
 use Rattle.book.proofs.Few.{call-few}
 use Rattle.tape_numbers.specs.Numbers.{Puts}
 use Rattle.tape_text.specs.Text.{recordLine}
-use Rattle.tape_text.specs.Lengths.{mostNotices}
+use Rattle.tape_lengths.specs.Lengths.{mostNotices}
 use Rattle.tape_reader.specs.declared.Reader.{Reader}
 use Rattle.tape_reader.specs.Counts.{counted, Within}
 use Rattle.tape_output.specs.declared.Playing.{Playing}

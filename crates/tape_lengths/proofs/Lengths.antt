@@ -10,8 +10,8 @@ use Rattle.records.proofs.Decode.{decode-fits}
 use Rattle.tape_numbers.specs.Numbers.{decimal, spaced}
 use Rattle.tape_numbers.proofs.Digits.{decimal-within, decimal-below}
 use Rattle.tape_numbers.proofs.Lengths.{spaced-more}
 use Rattle.tape_text.specs.Text.{recordLine, noticeLine, fileLine, totalLine}
-use Rattle.tape_text.specs.Lengths.{noticeLineMost, RecordLine, NoticeLine, FileLine, TotalLine}
+use Rattle.tape_lengths.specs.Lengths.{noticeLineMost, RecordLine, NoticeLine, FileLine, TotalLine}
 
 record-length : (place answer n : ℕ) → length (recordLine place answer n) ≡ length (decimal place) + length (decimal answer) + length (decimal n) + 3
 unfolding recordLine

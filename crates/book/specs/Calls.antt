@@ -100,7 +100,7 @@ call calendar b bytes lent =
     (onReading calendar b (reading bytes))
     (refusal (firstRow (callRows calendar b bytes lent)) b)
 
--- ---- what a call on a well-kept book comes to, by what its record is
+-- ---- what a call comes to on a well-kept book with a long enough buffer, by what its record is; proofs/Acts.antt proves it
 -- a day mark: row 15, then the mark
 abbrev pub onDayMark : List ℕ → Book → Record → Result
 onDayMark calendar b r = cond (eqb (r .day) (b .today + 1)) (markedBook calendar b (r .day)) (refusal NotNextDay b)
@@ -114,6 +114,6 @@ inBook b premise given =
       book = bookOf (b .today) (withFile premise (given .state .file) (filesOf b));
     }
 
--- .. on T and the record's premise
+-- .. on T and the file of the record's premise or none, with row 6 out of the way
 abbrev pub asOne : List ℕ → Book → Record → Result
 asOne calendar b r = inBook b (r .premise) (step calendar (premiseState b (r .premise)) r)

@@ -67,7 +67,7 @@ module _ (f g : File) (gs : List File) where
 
   pub put-over : f .premise ≡ g .premise → putIn f (g ∷ gs) ≡ f ∷ gs
   unfolding putIn
-  put-over h = rw (le-ltb (f .premise) (g .premise) (omega arith), eq-eqb (f .premise) (g .premise) h)
+  put-over h = rw (le-ltb (f .premise) (g .premise) (omega arith), eq-eqb (f .premise) (g .premise) h) refl
 
   pub put-after : g .premise < f .premise → putIn f (g ∷ gs) ≡ g ∷ putIn f gs
   unfolding putIn

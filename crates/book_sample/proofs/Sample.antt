@@ -71,9 +71,9 @@ agree premise i = go (eqb 7 premise) (eqb 5 premise) refl refl
   where
     go : (seven five : Bool) → eqb 7 premise ≡ seven → eqb 5 premise ≡ five → ownBytes premise sample ≡ ownBytes premise again
     go true true a b = absurd (omega (arith, eqb-true 7 premise a, eqb-true 5 premise b))
-    go true false a b = rw (a, b)
-    go false true a b = rw (a, b)
-    go false false a b = rw (a, b)
+    go true false a b = rw (a, b) refl
+    go false true a b = rw (a, b) refl
+    go false false a b = rw (a, b) refl
 
 -- so that demand 3 says of the two that they leave the same book
 pub same : SameBooks 0 sample again

@@ -1,6 +1,6 @@
 -- From which statuses, and for which kinds of order, a record is taken, by the record's kind. Assumes nothing.
 use Prim.Native.Nat.{ℕ}
-use mathlib.Core.Path.{_≡_, ap, _∙_}
+use mathlib.Core.Path.{_≡_, refl, ap, _∙_}
 use mathlib.Core.Bool.{false, _&&_, _||_, or-false}
 use borrow.Author.Tests.{ne-eqb}
 use Rattle.records.specs.declared.Record.{Record}
@@ -19,23 +19,23 @@ module _ (r : Record) (o : Order) where
 
   pub taken-scheduled : r .kind ≡ kindScheduled → taken r o ≡ (hasStatus inReview o || hasStatus permitPending o || hasStatus cancelPending o)
   unfolding taken
-  taken-scheduled e = taken-by kindScheduled e ∙ simp or-false
+  taken-scheduled e = taken-by kindScheduled e ∙ simp or-false refl
 
   pub taken-permit : r .kind ≡ kindPermit → taken r o ≡ (hasKind moveIn o && hasStatus inReview o)
   unfolding taken
-  taken-permit e = taken-by kindPermit e ∙ simp or-false
+  taken-permit e = taken-by kindPermit e ∙ simp or-false refl
 
   pub taken-unexecutable : r .kind ≡ kindUnexecutable → taken r o ≡ isOpen o
   unfolding taken
-  taken-unexecutable e = taken-by kindUnexecutable e ∙ simp or-false
+  taken-unexecutable e = taken-by kindUnexecutable e ∙ simp or-false refl
 
   pub taken-read : r .kind ≡ kindRead → taken r o ≡ (hasStatus scheduled o || hasStatus permitPending o)
   unfolding taken
-  taken-read e = taken-by kindRead e ∙ simp or-false
+  taken-read e = taken-by kindRead e ∙ simp or-false refl
 
   pub taken-cancel : r .kind ≡ kindCancel → taken r o ≡ (hasStatus inReview o || hasStatus permitPending o || hasStatus scheduled o)
   unfolding taken
-  taken-cancel e = taken-by kindCancel e ∙ simp or-false
+  taken-cancel e = taken-by kindCancel e ∙ simp or-false refl
 
   pub taken-reply : r .kind ≡ kindReply → taken r o ≡ hasStatus cancelPending o
   unfolding taken

@@ -30,7 +30,7 @@ module _ (p : ℕ → Order → Bool) (f : File) (tidy : Tidy f) (i : ℕ) (reac
 
     pub at-next : p i (getD (f .orders) i blank) ≡ false → anyAt p (i + 1) (drop (i + 1) (held f)) ≡ anyAt p 0 (held f)
     at-next q =
-        let left : anyAt p i (drop i (held f)) ≡ anyAt p (i + 1) (drop (i + 1) (held f)) = rw (first-held f tidy i h, q, add-one i) in
+        let left : anyAt p i (drop i (held f)) ≡ anyAt p (i + 1) (drop (i + 1) (held f)) = rw (first-held f tidy i h, q, add-one i) refl in
         sym left ∙ reached
 
   pub at-end : f .count ≤ i → false ≡ anyAt p 0 (held f)

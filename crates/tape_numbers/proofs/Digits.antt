@@ -1,6 +1,6 @@
 -- Laws of a number's digits: how many there are, and the last of them. Assumes nothing.
 use Prim.Native.Nat.{ℕ, zero, suc, _+_, _/_, _%_, _^_, _≤_, _<_}
-use mathlib.Core.Path.{_≡_, ap, _∙_}
+use mathlib.Core.Path.{_≡_, refl, ap, _∙_}
 use mathlib.Core.List.{List, [], _∷_, _++_}
 use native.Mathlib.Nat.{pow-suc}
 use native.Mathlib.Omega.{arith}
@@ -61,7 +61,7 @@ decimal-one n h = rw (lt-ltb n 10 h)
 -- a number of 64 bits with more digits: the last of them stands behind those of the number without it
 pub decimal-more : (n : ℕ) → 10 ≤ n → n < 18446744073709551616 → decimal n ≡ decimal (n / 10) ++ (digit (n % 10) ∷ [])
 unfolding decimal
-decimal-more n h k = rw (digits-enough 18 (n / 10) (omega arith), le-ltb n 10 h)
+decimal-more n h k = rw (digits-enough 18 (n / 10) (omega arith), le-ltb n 10 h) refl
 
 pub decimal-longer : (n : ℕ) → 10 ≤ n → n < 18446744073709551616 → length (decimal n) ≡ length (decimal (n / 10)) + 1
 decimal-longer n h k = ap length (decimal-more n h k) ∙ one-more (decimal (n / 10)) (digit (n % 10))

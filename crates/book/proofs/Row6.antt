@@ -1,15 +1,13 @@
 -- Row 6: a record that meets it is answered 6, and no other is. Assumes nothing.
 use Prim.Native.Nat.{ℕ}
-use mathlib.Core.Path.{_≡_, refl, sym, ap, _∙_}
+use mathlib.Core.Path.{_≡_, refl, sym, _∙_}
 use mathlib.Core.Logic.{_↔_}
 use mathlib.Core.List.{List, [], _∷_, _++_}
 use mathlib.Core.Option.{Option, none, some}
-use mathlib.Core.Bool.{Bool, true, false, cond, not, _&&_, false≢true}
+use mathlib.Core.Bool.{Bool, true, false, not, _&&_, false≢true}
 use native.Mathlib.Omega.{arith}
 use lib.Dec.{eqb}
 use lib.ListN.{length}
-use borrow.Author.Tests.{eqb-false, not-true}
-use Rattle.lists.specs.Search.{allOf}
 use Rattle.lists.proofs.TestLaws.{and-left, and-right}
 use Rattle.records.specs.declared.Record.{Record}
 use Rattle.records.specs.declared.Reading.{Reading}
@@ -18,31 +16,15 @@ use Rattle.records.specs.Records.{reading, kindCreate}
 use Rattle.premise.specs.declared.File.{File}
 use Rattle.premise.specs.declared.Answer.the-variants.{BookFull}
 use Rattle.premise.specs.Steps.{is}
-use Rattle.premise.specs.Refusals.{Row, row, firstRow, number, isHeld, ordersOf, premiseRows, orderRows, rows}
+use Rattle.premise.specs.Refusals.{row, firstRow, isHeld, ordersOf, premiseRows, orderRows}
 use Rattle.premise.proofs.Answers.{create-passes}
+use Rattle.premise.proofs.Table.{full-is-six, no-row-6}
 use Rattle.book.specs.declared.Book.{Book}
 use Rattle.book.specs.Book.{mostFiles, filesOf, fileFor}
 use Rattle.book.specs.Calls.{recordRows, meetsRow6}
 use Rattle.book.specs.Laws.{AnsweredFull}
 use Rattle.book.proofs.Rows.{rows-of-one, record-decides}
 use Rattle.book.proofs.Demand1.{call-answer}
-
--- ---- the one-premise rules have no row 6
-abbrev notSix : Row → Bool
-notSix x = not (eqb (number (x .answer)) 6)
-
-none-is-six : (calendar : List ℕ) (today : ℕ) (file : Option File) (r : Record) → allOf notSix (rows calendar today file r) ≡ true
-unfolding number premiseRows orderRows
-none-is-six calendar today file r = refl
-
-first-not-six : (rs : List Row) → allOf notSix rs ≡ true → number (firstRow rs) ≡ 6 → ⊥
-unfolding number
-first-not-six [] h = λ e. omega (arith, e)
-first-not-six (x ∷ rs) h = go (x .when) (first-not-six rs (and-right (notSix x) (allOf notSix rs) h))
-  where
-    go : (w : Bool) → (number (firstRow rs) ≡ 6 → ⊥) → number (cond w (x .answer) (firstRow rs)) ≡ 6 → ⊥
-    go true later = eqb-false (number (x .answer)) 6 (not-true (eqb (number (x .answer)) 6) (and-left (notSix x) (allOf notSix rs) h))
-    go false later = later
 
 module _ (calendar : List ℕ) (b : Book) where
   -- a create that meets row 6 meets none before it
@@ -58,19 +40,19 @@ module _ (calendar : List ℕ) (b : Book) where
           ∙ rw (creates, full) refl
       go (some f) q = absurd (false≢true (and-right (is kindCreate r) false (and-left (is kindCreate r && false) (eqb (length (filesOf b)) mostFiles) q)))
 
-  full-exactly : (d : Reading) → (number (firstRow (recordRows calendar b d)) ≡ 6) ↔ (meetsRow6 b d ≡ true)
-  unfolding number
-  full-exactly Malformed = ((λ e. absurd (omega (arith, e))), (λ e. absurd (false≢true e)))
+  full-exactly : (d : Reading) → (firstRow (recordRows calendar b d) ≡ BookFull) ↔ (meetsRow6 b d ≡ true)
+  full-exactly Malformed = ((λ e. let z : _≡_ {A = ℕ} 0 1 = cc in absurd (omega arith)), (λ e. absurd (false≢true e)))
   full-exactly (Says r) = go (meetsRow6 b (Says r)) refl
     where
-      go : (full : Bool) → meetsRow6 b (Says r) ≡ full → (number (firstRow (recordRows calendar b (Says r))) ≡ 6) ↔ (full ≡ true)
-      go true q = ((λ e. refl), (λ e. ap number (first-full r q)))
+      go : (full : Bool) → meetsRow6 b (Says r) ≡ full → (firstRow (recordRows calendar b (Says r)) ≡ BookFull) ↔ (full ≡ true)
+      go true q = ((λ e. refl), (λ e. first-full r q))
       go false q =
-          let file : Option File = fileFor (r .premise) (filesOf b) in (
-            (λ e. absurd (first-not-six (rows calendar (b .today) file r) (none-is-six calendar (b .today) file r) (ap number (sym (rows-of-one calendar b r q)) ∙ e))),
-            (λ e. absurd (false≢true e)),
-          )
+          ((λ e. absurd (no-row-6 calendar (b .today) (fileFor (r .premise) (filesOf b)) r (sym (rows-of-one calendar b r q) ∙ e))), (λ e. absurd (false≢true e)))
 
 pub answered-full : AnsweredFull
 answered-full calendar b bytes lent well room =
-    rw (call-answer calendar b bytes lent, record-decides calendar b bytes lent room well) (full-exactly calendar b (reading bytes))
+    let d = reading bytes in
+    let six = full-is-six (firstRow (recordRows calendar b d)) in
+    let full = full-exactly calendar b d in
+    rw (call-answer calendar b bytes lent, record-decides calendar b bytes lent room well)
+    ((λ e. full .0 (six .0 e)), (λ e. six .1 (full .1 e)))

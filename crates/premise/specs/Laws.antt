@@ -13,7 +13,7 @@ use Rattle.records.specs.declared.Notice.{Notice}
 use Rattle.records.specs.Records.{kindCreate, kindRetire, kindDayMark, wellFormed}
 use Rattle.premise.specs.declared.File.{File}
 use Rattle.premise.specs.declared.Answer.{Answer}
-use Rattle.premise.specs.declared.Answer.the-variants.{Accepted, NoSuchPremise, PremiseHeld, NotNextDay}
+use Rattle.premise.specs.declared.Answer.the-variants.{Accepted, NoSuchPremise, PremiseHeld, BookFull, NotNextDay}
 use Rattle.premise.specs.Orders.{mostOrders, blankFile, held}
 use Rattle.premise.specs.Steps.{is}
 use Rattle.premise.specs.WellKept.{fileKept, fileBlank, FileKept}
@@ -63,6 +63,13 @@ RefusalIs =
 -- of all answers only acceptance has the number 0
 abbrev pub AcceptedIsZero : Type 0
 AcceptedIsZero = (answer : Answer) → (number answer ≡ 0) ↔ (answer ≡ Accepted)
+
+-- of all answers only a full book has the number 6, and the one-premise rules have no such row
+abbrev pub FullIsSix : Type 0
+FullIsSix = (answer : Answer) → (number answer ≡ 6) ↔ (answer ≡ BookFull)
+
+abbrev pub NoRow6 : Type 0
+NoRow6 = (calendar : List ℕ) (today : ℕ) (file : Option File) (r : Record) → firstRow (rows calendar today file r) ≡ BookFull → ⊥
 
 -- rows 4 and 5 do not hold for a create of a premise without a file
 abbrev pub CreatePasses : Type 0

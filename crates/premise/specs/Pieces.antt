@@ -1,6 +1,6 @@
 -- Document 01, "Set pieces", about the one-premise rules. Each case is data: a calendar, a start day, the records played, and what must
 -- come out. Pieces d and i about days alone stand in the days layer's list, which is part of this one.
-use Prim.Native.Nat.{ℕ, zero, suc}
+use Prim.Native.Nat.{ℕ, zero, suc, _+_}
 use mathlib.Core.List.{List, [], _∷_, _++_, map}
 use mathlib.Core.Option.{Option, none, some}
 use mathlib.Core.Bool.{Bool, true, false, _&&_}
@@ -13,10 +13,10 @@ use Rattle.records.specs.Records.{kindCreate, kindRetire, kindNewOrder, kindSch
 use Rattle.records.specs.Notices.{tdsp}
 use Rattle.premise.specs.declared.Order.{Order}
 use Rattle.premise.specs.declared.File.{File}
-use Rattle.premise.specs.Orders.{inReview, permitPending, scheduled, cancelPending, complete, cancelled}
+use Rattle.premise.specs.Orders.{inReview, permitPending, scheduled, cancelPending, complete, cancelled, hasStatus}
 use Rattle.premise.specs.Passes.{codeOrder, codeMoveOut, codeScheduled, codeLosing, codeCancel, codePermit, codeUnexecutable, codeReject}
 use Rattle.premise.specs.Refusals.{number, ordersOf}
-use Rattle.premise.specs.OnePremise.{Given, startState, runs, endState}
+use Rattle.premise.specs.OnePremise.{State, Given, startState, step, runs, endState}
 
 -- ---- records in the trade's words, all for premise 7
 abbrev pub create : ℕ → ℕ → Record
@@ -87,17 +87,29 @@ pub record Counts : Type 0 where
 abbrev pub counts : ℕ → ℕ → ℕ → Counts
 counts waited pending told = record { waited = waited; pending = pending; told = told }
 
+-- a record as the tape program shows it: its answer, and the notices under it
+pub record Line : Type 0 where
+  pub answer : ℕ
+  pub notices : List Sent
+
+abbrev pub line : ℕ → List Sent → Line
+line answer notices = record { answer = answer; notices = notices }
+
 pub data Piece : Type 0 where
   -- calendar, start day, records, the answers' numbers
   answered : List ℕ → ℕ → List Record → List ℕ → Piece
   -- calendar, start day, records, the orders at the end
   left : List ℕ → ℕ → List Record → List Stands → Piece
+  -- calendar, start day, records on that day, the only order's status on that day and, mark by mark, on those after it
+  daily : List ℕ → ℕ → List Record → List ℕ → Piece
   -- calendar, start day, records, the counts of the orders at the end
   waits : List ℕ → ℕ → List Record → List Counts → Piece
   -- calendar, start day, records, the last record's notices
   tells : List ℕ → ℕ → List Record → List Sent → Piece
   -- calendar, start day, records, the retailer at the end and the day since which it holds
   supplies : List ℕ → ℕ → List Record → ℕ → ℕ → Piece
+  -- calendar, start day, records, a line for each of them, the retailer at the end and the day since which it holds
+  plays : List ℕ → ℕ → List Record → List Line → ℕ → ℕ → Piece
   -- a case about days alone
   onDays : days.Piece → Piece
 
@@ -139,12 +151,32 @@ abbrev suppliedBy : Option File → ℕ → ℕ → Bool
 suppliedBy none retailer since = false
 suppliedBy (some f) retailer since = eqb (f .retailer) retailer && eqb (f .since) since
 
+abbrev sameLines : List Given → List Line → Bool
+sameLines [] [] = true
+sameLines [] (l ∷ ls) = false
+sameLines (g ∷ gs) [] = false
+sameLines (g ∷ gs) (l ∷ ls) = eqb (number (g .answer)) (l .answer) && sameNotices (g .notices) (l .notices) && sameLines gs ls
+
+abbrev onlyStatus : List Order → ℕ → Bool
+onlyStatus [] status = false
+onlyStatus (o ∷ []) status = hasStatus status o
+onlyStatus (o ∷ p ∷ os) status = false
+
+-- a mark a day, each on the state that the one before left
+abbrev statusesPass : List ℕ → State → List ℕ → Bool
+statusesPass calendar s [] = true
+statusesPass calendar s (status ∷ more) =
+    onlyStatus (ordersOf (s .file)) status && statusesPass calendar (step calendar s (mark (s .today + 1)) .state) more
+
 abbrev pub holds : Piece → Bool
 holds (answered calendar start records answers) = same (answersOf (runs calendar (startState start) records)) answers
 holds (left calendar start records orders) = sameOrders (ordersOf (endState calendar (startState start) records .file)) orders
+holds (daily calendar start records statuses) = statusesPass calendar (endState calendar (startState start) records) statuses
 holds (waits calendar start records orders) = sameCounts (ordersOf (endState calendar (startState start) records .file)) orders
 holds (tells calendar start records notices) = sameNotices (lastNotices (runs calendar (startState start) records)) notices
 holds (supplies calendar start records retailer since) = suppliedBy (endState calendar (startState start) records .file) retailer since
+holds (plays calendar start records lines retailer since) =
+    sameLines (runs calendar (startState start) records) lines && suppliedBy (endState calendar (startState start) records .file) retailer since
 holds (onDays piece) = days.holds piece
 
 abbrev pub allHold : List Piece → Bool
@@ -255,30 +287,21 @@ pieces =
     ∷ left (business 20) 10 (eight ++ (unexecuted 3 ∷ order massTransitionDrop 5 9 202 ∷ []))
     (stands 1 inReview ∷ stands 2 inReview ∷ stands 4 inReview ∷ stands 5 inReview ∷ stands 6 inReview ∷ stands 7 inReview ∷ stands 8 inReview ∷ stands 9 inReview ∷ [])
     -- f. Unanswered move in, RD and arrival day 50: Cancel Pending at 52, still at 58, Cancelled at 59
-    ∷ left (business 60) 50 (arrives ++ marks 1 51) (stands 1 inReview ∷ [])
-    ∷ left (business 60) 50 (arrives ++ marks 2 51) (stands 1 cancelPending ∷ [])
-    ∷ left (business 60) 50 (arrives ++ marks 8 51) (stands 1 cancelPending ∷ [])
-    ∷ left (business 60) 50 (arrives ++ marks 9 51) (stands 1 cancelled ∷ [])
+    ∷ daily (business 60) 50 arrives (replicate 2 inReview ++ replicate 7 cancelPending ++ (cancelled ∷ []))
     ∷ tells (business 60) 50 (arrives ++ marks 2 51) (sent codeCancel 4096 1 tdsp ∷ [])
     ∷ tells (business 60) 50 (arrives ++ marks 9 51) (sent codeCancel 4096 1 tdsp ∷ sent codeCancel 4096 1 202 ∷ [])
     -- f, with 51 and 52 no business days: they do not count, so Cancel Pending at 54
-    ∷ left (business 51 ++ (1 ∷ 2 ∷ []) ++ business 10) 50 (arrives ++ marks 3 51) (stands 1 inReview ∷ [])
-    ∷ left (business 51 ++ (1 ∷ 2 ∷ []) ++ business 10) 50 (arrives ++ marks 4 51) (stands 1 cancelPending ∷ [])
+    ∷ daily (business 51 ++ (1 ∷ 2 ∷ []) ++ business 10) 50 arrives (replicate 4 inReview ++ (cancelPending ∷ []))
     -- f, with 50 no business day: the day of arrival does not count, so Cancel Pending at 53
-    ∷ left (business 50 ++ (1 ∷ []) ++ business 10) 50 (arrives ++ marks 2 51) (stands 1 inReview ∷ [])
-    ∷ left (business 50 ++ (1 ∷ []) ++ business 10) 50 (arrives ++ marks 3 51) (stands 1 cancelPending ∷ [])
+    ∷ daily (business 50 ++ (1 ∷ []) ++ business 10) 50 arrives (replicate 3 inReview ++ (cancelPending ∷ []))
     -- f, for 55, which is no business day: Cancel Pending on it all the same
-    ∷ left (business 55 ++ (2 ∷ [])) 50 (create 0 101 ∷ order moveIn 55 1 202 ∷ marks 4 51) (stands 1 inReview ∷ [])
-    ∷ left (business 55 ++ (2 ∷ [])) 50 (create 0 101 ∷ order moveIn 55 1 202 ∷ marks 5 51) (stands 1 cancelPending ∷ [])
+    ∷ daily (business 55 ++ (2 ∷ [])) 50 (create 0 101 ∷ order moveIn 55 1 202 ∷ []) (replicate 5 inReview ++ (cancelPending ∷ []))
     -- f, for a day that has not come: 20 business days
-    ∷ left (business 90) 50 (create 0 101 ∷ order moveIn 80 1 202 ∷ marks 18 51) (stands 1 inReview ∷ [])
-    ∷ left (business 90) 50 (create 0 101 ∷ order moveIn 80 1 202 ∷ marks 19 51) (stands 1 cancelPending ∷ [])
+    ∷ daily (business 90) 50 (create 0 101 ∷ order moveIn 80 1 202 ∷ []) (replicate 19 inReview ++ (cancelPending ∷ []))
     -- g. Permit Pending since before RD 60: waiting at 79, Cancel Pending at 80
-    ∷ left (business 90) 50 (permitted ++ marks 29 51) (stands 1 permitPending ∷ [])
-    ∷ left (business 90) 50 (permitted ++ marks 30 51) (stands 1 cancelPending ∷ [])
+    ∷ daily (business 90) 50 permitted (replicate 30 permitPending ++ (cancelPending ∷ []))
     -- g, with 70 and 71 no business days: Cancel Pending at 82
-    ∷ left (business 70 ++ (1 ∷ 2 ∷ []) ++ business 20) 50 (permitted ++ marks 31 51) (stands 1 permitPending ∷ [])
-    ∷ left (business 70 ++ (1 ∷ 2 ∷ []) ++ business 20) 50 (permitted ++ marks 32 51) (stands 1 cancelPending ∷ [])
+    ∷ daily (business 70 ++ (1 ∷ 2 ∷ []) ++ business 20) 50 permitted (replicate 32 permitPending ++ (cancelPending ∷ []))
     -- g, the permit sets N to 0 and its retailer is told
     ∷ waits (business 90) 50 permitted (counts 0 0 0 ∷ [])
     ∷ tells (business 90) 50 permitted (sent codePermit 4096 1 202 ∷ [])
@@ -354,11 +377,9 @@ pieces =
     (0 ∷ 0 ∷ 0 ∷ 14 ∷ 14 ∷ 14 ∷ 0 ∷ 14 ∷ 14 ∷ 0 ∷ 14 ∷ 14 ∷ 14 ∷ 0 ∷ 14 ∷ 14 ∷ 14 ∷ 0 ∷ 0 ∷ 14 ∷ 14 ∷ 14 ∷ 14 ∷ 14 ∷ 14 ∷ [])
     -- a move out's own notice
     ∷ tells (business 20) 10 (create 0 101 ∷ order moveOut 14 1 202 ∷ []) (sent codeMoveOut 14 1 tdsp ∷ [])
-    -- document 01's own tape, for premise 7
-    ∷ answered (business 4096) 0 (create 0 101 ∷ order standardSwitch 0 1 202 ∷ schedule 1 0 ∷ read 1 0 ∷ []) (0 ∷ 0 ∷ 0 ∷ 0 ∷ [])
-    ∷ tells (business 4096) 0 (create 0 101 ∷ order standardSwitch 0 1 202 ∷ []) (sent codeOrder 0 1 tdsp ∷ [])
-    ∷ tells (business 4096) 0 (create 0 101 ∷ order standardSwitch 0 1 202 ∷ schedule 1 0 ∷ []) (sent codeScheduled 0 1 202 ∷ sent codeLosing 0 1 101 ∷ [])
-    ∷ tells (business 4096) 0 (create 0 101 ∷ order standardSwitch 0 1 202 ∷ schedule 1 0 ∷ read 1 0 ∷ []) []
-    ∷ supplies (business 4096) 0 (create 0 101 ∷ order standardSwitch 0 1 202 ∷ schedule 1 0 ∷ read 1 0 ∷ []) 202 0
+    -- document 01's own tape, for premise 7, line by line
+    ∷ plays (business 4096) 0 (create 0 101 ∷ order standardSwitch 0 1 202 ∷ schedule 1 0 ∷ read 1 0 ∷ [])
+    (line 0 [] ∷ line 0 (sent codeOrder 0 1 tdsp ∷ []) ∷ line 0 (sent codeScheduled 0 1 202 ∷ sent codeLosing 0 1 101 ∷ []) ∷ line 0 [] ∷ [])
+    202 0
     -- d and i, about days alone
     ∷ map onDays days.pieces

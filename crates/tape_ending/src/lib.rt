@@ -1,5 +1,6 @@
 // The tape layer, inner: how a stretch of a tape closes, with the text of the end.
 ghost use Prim.Native.Nat.{_+_, _≤_};
+ghost use lib.Dec.{leb};
 ghost use lib.ListN.{length};
 ghost use Rattle.tape_numbers.specs.Numbers.{Puts};
 ghost use Rattle.tape_output.specs.Output.{ending};
@@ -29,12 +30,12 @@ fn put_ending(p: Playing, start: usize, out: &mut [u8]) -> usize
     tape_text::put_total(reader.accepted, reader.refused, at, out)
 }
 
-// How a stretch closes: where every record of the tape is played and the end finds room, the end is put.
-pub fn close(p: Playing, all: bool, stop: usize, out: &mut [u8]) -> Stretch
+// How a stretch closes, by the place that it has reached of the whole tape: where every record is played and the end finds room, the end is put.
+pub fn close(p: Playing, reached: usize, whole: usize, stop: usize, out: &mut [u8]) -> Stretch
     requires { ⌜ Ready p × (stop ≤ length (now out)) ⌝ }
-    ensures { λ r. ⌜ Closes all p stop r (now (out .entry)) (now (out .exit)) ⌝ }
+    ensures { λ r. ⌜ Closes (leb whole reached) p stop r (now (out .entry)) (now (out .exit)) ⌝ }
 {
-    if all {
+    if whole <= reached {
         if MOST_ENDING <= out.len() - stop {
             let end = put_ending(p, stop, out);
             return Stretch {

@@ -93,6 +93,5 @@ pub fn play_on(
         reader: reader,
         book: b,
     };
-    let all = tape.len() <= from;
-    tape_ending::close(q, all, stop, out)
+    tape_ending::close(q, from, tape.len(), stop, out)
 }

@@ -1,5 +1,7 @@
 -- `tape_ending::close` meets its contract: a record is left, the end finds no room, or it is put. Assumes nothing.
+use lib.Dec.{leb}
 use borrow.Author.Needs.{needs}
+use borrow.Author.Tests.{le-leb, lt-leb}
 use Rattle.tape_ending.proofs.Closing.{closes-before, closes-short, closes-all}
 use Rattle.tape_ending.proofs.close.Statement.{statement}
 use Rattle.tape_ending.proofs.close.Tie as tie
@@ -10,16 +12,18 @@ returns c =
     let u = e .before .before in
     let t = u .before in
     let a = t .before .before .args in
-    closes-all (a .all) (a .p) (a .stop) (a .out .now) (t .if1 .taken) (u .if2 .taken) (e .put-ending .ensures)
+    closes-all (leb (a .whole) (a .reached)) (a .p) (a .stop) (a .out .now) (le-leb _ _ (t .if1 .taken)) (u .if2 .taken) (e .put-ending .ensures)
 
 returns-2 : tie.Need-returns-2
 returns-2 c =
     let t = c .before in
     let a = t .before .before .args in
-    closes-short (a .all) (a .p) (a .stop) (a .out .now) (t .if1 .taken) (c .if2 .left)
+    closes-short (leb (a .whole) (a .reached)) (a .p) (a .stop) (a .out .now) (le-leb _ _ (t .if1 .taken)) (c .if2 .left)
 
 returns-3 : tie.Need-returns-3
-returns-3 c = let a = c .before .before .args in closes-before (a .all) (a .p) (a .stop) (a .out .now) (c .if1 .left)
+returns-3 c =
+    let a = c .before .before .args in
+    closes-before (leb (a .whole) (a .reached)) (a .p) (a .stop) (a .out .now) (lt-leb _ _ (c .if1 .left))
 
 pub close-spec : {M : Type 1} → statement M
 close-spec = tie.close (tie.spec (λ c. search needs) (λ c κs. search needs) (λ c. search needs) returns returns-2 returns-3)

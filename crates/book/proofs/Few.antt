@@ -9,7 +9,7 @@ use Rattle.premise.specs.declared.File.{File}
 use Rattle.premise.specs.Orders.{mostOrders}
 use Rattle.premise.specs.WellKept.{FileKept}
 use Rattle.premise.specs.OnePremise.{marked}
-use Rattle.premise.proofs.Few.{mark-few, step-few}
+use Rattle.premise_laws.proofs.Few.{mark-few, step-few}
 use Rattle.book.specs.Book.{filesOf, fileFor}
 use Rattle.book.specs.Calls.{markedNotices, premiseState}
 use Rattle.book.specs.Laws.{MarkAllFew, StepAllFew, CallFew}

@@ -11,7 +11,7 @@ use borrow.Author.Tests.{eqb-true, eqb-false, ltb-true, ltb-false, eq-eqb, ne-eq
 use Rattle.lists.specs.Search.{Each}
 use Rattle.lists.proofs.TestLaws.{and-left, and-right}
 use Rattle.premise.specs.declared.File.{File}
-use Rattle.premise.specs.Laws.{Held}
+use Rattle.premise_laws.specs.Laws.{Held}
 use Rattle.book.specs.Book.{risesFrom, fileFor, putIn, takenOut}
 
 -- ---- rising

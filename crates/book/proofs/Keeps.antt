@@ -22,8 +22,8 @@ use Rattle.premise.specs.WellKept.{FileKept}
 use Rattle.premise.specs.Steps.{is}
 use Rattle.premise.specs.Refusals.{number, firstRow}
 use Rattle.premise.specs.OnePremise.{step, marked}
-use Rattle.premise.specs.Laws.{Held, KeptFor}
-use Rattle.premise.proofs.KeptSteps.{step-keeps}
+use Rattle.premise_laws.specs.Laws.{Held, KeptFor}
+use Rattle.premise_laws.proofs.KeptSteps.{step-keeps}
 use Rattle.premise.proofs.Answers.{only-create-makes, holds}
 use Rattle.book.specs.declared.Book.{Book}
 use Rattle.book.specs.Book.{mostFiles, filesOf, bookKept, fileFor, putIn, withFile}

@@ -9,8 +9,9 @@ use Rattle.lists.specs.Search.{Each}
 use Rattle.premise.specs.declared.File.{File}
 use Rattle.premise.specs.WellKept.{FileKept}
 use Rattle.premise.specs.OnePremise.{State, marked}
-use Rattle.premise.specs.Laws.{KeptFor, markedOr}
-use Rattle.premise.proofs.KeptPasses.{mark-keeps}
+use Rattle.premise.specs.Laws.{markedOr}
+use Rattle.premise_laws.specs.Laws.{KeptFor}
+use Rattle.premise_laws.proofs.KeptPasses.{mark-keeps}
 use Rattle.book.specs.Book.{fileFor}
 use Rattle.book.specs.Calls.{markedFiles}
 use Rattle.book.proofs.Files.{Rising}

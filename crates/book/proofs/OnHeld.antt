@@ -16,7 +16,7 @@ use Rattle.records.proofs.Readings.{says}
 use Rattle.premise.specs.declared.File.{File}
 use Rattle.premise.specs.Steps.{is}
 use Rattle.premise.specs.OnePremise.{Given, step}
-use Rattle.premise.specs.Laws.{Held, KeptFor}
+use Rattle.premise_laws.specs.Laws.{Held, KeptFor}
 use Rattle.book.specs.declared.Book.{Book}
 use Rattle.book.specs.Book.{filesOf, bookOf, bookKept, fileFor, putIn, withFile}
 use Rattle.book.specs.Calls.{noticeBytes, premiseState, Result, call, meetsRow6, onDayMark, asOne, inBook, givenOn}

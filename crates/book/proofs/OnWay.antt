@@ -16,7 +16,7 @@ use Rattle.premise.specs.declared.File.{File}
 use Rattle.premise.specs.declared.Answer.the-variants.{NotNextDay}
 use Rattle.premise.specs.Steps.{is}
 use Rattle.premise.specs.OnePremise.{step}
-use Rattle.premise.specs.Laws.{Held, KeptFor}
+use Rattle.premise_laws.specs.Laws.{Held, KeptFor}
 use Rattle.book.specs.declared.Book.{Book}
 use Rattle.book.specs.Book.{filesOf, bookOf, withFile}
 use Rattle.book.specs.Calls.{premiseState, markedFiles, refusal, onDayMark, asOne, markedBook}

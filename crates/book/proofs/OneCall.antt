@@ -18,7 +18,7 @@ use Rattle.premise.specs.Refusals.{number}
 use Rattle.premise.specs.OnePremise.{Given, refused, step, runs, endState}
 use Rattle.premise.specs.Laws.{markedOr}
 use Rattle.premise.proofs.Answers.{only-marks-move, mark-step}
-use Rattle.premise.proofs.Notices.{step-notices}
+use Rattle.premise_laws.proofs.Notices.{step-notices}
 use Rattle.book.specs.declared.Book.{Book}
 use Rattle.book.specs.Book.{filesOf, bookOf, fileFor, withFile}
 use Rattle.book.specs.Calls.{premiseState, markedFiles, Result, refusal, onDayMark, asOne, markedBook}

@@ -13,8 +13,9 @@ use Rattle.records.specs.Notices.{encode}
 use Rattle.records.proofs.Notices.{premise-back}
 use Rattle.premise.specs.declared.File.{File}
 use Rattle.premise.specs.OnePremise.{marked}
-use Rattle.premise.specs.Laws.{Of, markedOr}
-use Rattle.premise.proofs.Notices.{mark-notices}
+use Rattle.premise.specs.Laws.{markedOr}
+use Rattle.premise_laws.specs.Laws.{Of}
+use Rattle.premise_laws.proofs.Notices.{mark-notices}
 use Rattle.book.specs.Book.{fileFor}
 use Rattle.book.specs.Calls.{markedNotices}
 use Rattle.book.specs.Demand3.{Premise, withPremise}

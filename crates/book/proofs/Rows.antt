@@ -1,7 +1,7 @@
 -- The table of a call: its first row is acceptance exactly where none holds, and with rows 1, 2 and 6 out of the way it is the table
 -- of the one-premise rules. Assumes nothing.
 use Prim.Native.Nat.{ℕ, _≤_}
-use mathlib.Core.Path.{_≡_, refl, sym, _∙_, ap}
+use mathlib.Core.Path.{_≡_, refl, sym, _∙_, ap, ap₂}
 use mathlib.Core.Logic.{_↔_}
 use mathlib.Core.List.{List, [], _∷_, _++_}
 use mathlib.Core.Option.{Option, none, some}
@@ -114,7 +114,9 @@ module _ (calendar : List ℕ) (b : Book) (bytes lent : List ℕ) where
   -- with a long enough buffer and a well-kept book the first row is one of the record's
   pub record-decides : noticeBytes ≤ length lent → bookKept b ≡ true → firstRow (callRows calendar b bytes lent) ≡ firstRow (recordRows calendar b (reading bytes))
   unfolding callRows
-  record-decides h k = rw (le-ltb (length lent) noticeBytes h, k) refl
+  record-decides h k =
+      ap₂ (λ (short kept : Bool). firstRow (row ShortBuffer short ∷ row NotWellKept (not kept) ∷ recordRows calendar b (reading bytes)))
+      (le-ltb (length lent) noticeBytes h) k
 
   pub call-exact : Exact (callRows calendar b bytes lent)
   unfolding callRows

@@ -9,7 +9,7 @@ use lib.Dec.{eqb, ltb}
 use borrow.Author.Tests.{eqb-true, eqb-false, ltb-true, ltb-false}
 use Rattle.lists.specs.Search.{Each}
 use Rattle.premise.specs.declared.File.{File}
-use Rattle.premise.specs.Laws.{Held}
+use Rattle.premise_laws.specs.Laws.{Held}
 use Rattle.book.specs.Book.{fileFor, putIn, withFile}
 use Rattle.book.proofs.Files.{Rising, found-below, found-head, found-tail, found-has, put-found, put-others, put-rising, put-each, taken-found, taken-others, taken-rising, taken-each}
 

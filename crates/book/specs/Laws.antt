@@ -18,7 +18,7 @@ use Rattle.premise.specs.Steps.{is}
 use Rattle.premise.specs.Refusals.{number, needsPremise}
 use Rattle.premise.specs.OnePremise.{Given}
 use Rattle.premise.specs.WellKept.{FileKept}
-use Rattle.premise.specs.Laws.{KeptFor}
+use Rattle.premise_laws.specs.Laws.{KeptFor}
 use Rattle.book.specs.declared.Book.{Book}
 use Rattle.book.specs.Book.{mostFiles, filesOf, bookOf, freshBook, risesFrom, bookKept, fileFor}
 use Rattle.book.specs.Calls.{noticeBytes, meetsRow6, markedFiles, markedNotices, onPremise, refusal, call, onDayMark, givenOn}

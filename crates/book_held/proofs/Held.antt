@@ -15,7 +15,7 @@ use Rattle.premise.specs.declared.Replied.{Replied}
 use Rattle.premise.specs.Steps.{is}
 use Rattle.premise.specs.Refusals.{isHeld}
 use Rattle.premise.specs.Promises.{Room, asStruct, TidyOrNone, Answered}
-use Rattle.premise.proofs.Few.{step-few}
+use Rattle.premise_laws.proofs.Few.{step-few}
 use Rattle.book.proofs.Emits.{writes-emits}
 use Rattle.book.specs.Calls.{givenOn}
 use Rattle.book_in_place.specs.Held.{HeldReady, HeldGives}

@@ -11,7 +11,7 @@ use Rattle.records.specs.declared.Record.{Record}
 use Rattle.premise.specs.declared.File.{File}
 use Rattle.premise.specs.declared.Replied.{Replied}
 use Rattle.premise.specs.Orders.{blankFile}
-use Rattle.premise.specs.Laws.{Held, KeptFor}
+use Rattle.premise_laws.specs.Laws.{Held, KeptFor}
 use Rattle.premise.specs.Promises.{TidyOrNone, Answered}
 use Rattle.book.specs.declared.Book.{Book}
 use Rattle.book.specs.Book.{filesOf, bookOf, fileFor, withFile}

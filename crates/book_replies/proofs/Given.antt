@@ -14,7 +14,7 @@ use Rattle.premise.specs.declared.File.{File}
 use Rattle.premise.specs.declared.FileOrNone.{FileOrNone}
 use Rattle.premise.specs.declared.Replied.{Replied}
 use Rattle.premise.specs.declared.Answer.the-variants.{BookFull}
-use Rattle.premise.specs.Laws.{Held, KeptFor}
+use Rattle.premise_laws.specs.Laws.{Held, KeptFor}
 use Rattle.premise.specs.Promises.{Room, asStruct, Answered}
 use Rattle.book.specs.declared.Book.{Book}
 use Rattle.book.specs.Book.{filesOf, bookOf, fileFor, withFile}

@@ -103,7 +103,7 @@ refusal-changes-nothing calendar s r h =
 -- ---- by the record's kind
 pub create-passes : CreatePasses
 unfolding premiseRows
-create-passes r more h = rw (eqb-true (r .kind) kindCreate h)
+create-passes r more h = rw (eqb-true (r .kind) kindCreate h) refl
 
 -- what is done by a record that is no day mark is done on the day that it was
 effect-stays : (calendar : List ℕ) (today : ℕ) (file : Option File) (r : Record) → is kindDayMark r ≡ false → effectOn calendar today file r .state .today ≡ today

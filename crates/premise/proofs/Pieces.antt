@@ -8,10 +8,11 @@ use Rattle.premise.specs.Steps.{requestedDay, makeRoom, ordered, taken, 
 use Rattle.premise.specs.Clock.{reviewed, permitAwaited, cancelAwaited, ticked}
 use Rattle.premise.specs.Evaluation.{contends, kept, givesWay, settled, displaced, dropped, overtaken, lapsed, due, told, evaluation}
 use Rattle.premise.specs.FirstIn.{refuses, standsInWay, notFirstIn}
+use Rattle.premise.specs.WellKept.{orderKept}
 use Rattle.premise.specs.Refusals.{number, premiseRows, orderRows}
 use Rattle.premise.specs.OnePremise.{marked, stepped, step}
 use Rattle.premise.specs.Pieces.{pieces, allHold}
 
 pub set-pieces : allHold pieces ≡ true
-unfolding kindOfDay isBusinessDay switchDate businessDays inWindow places requestedDay makeRoom ordered taken onScheduled onPermit onUnexecutable onRead supplied onCancel onReply onOrder changed reviewed permitAwaited cancelAwaited ticked contends kept givesWay settled displaced dropped overtaken lapsed due told evaluation refuses standsInWay notFirstIn number premiseRows orderRows marked stepped step
+unfolding kindOfDay isBusinessDay switchDate businessDays inWindow places requestedDay makeRoom ordered taken onScheduled onPermit onUnexecutable onRead supplied onCancel onReply onOrder changed reviewed permitAwaited cancelAwaited ticked contends kept givesWay settled displaced dropped overtaken lapsed due told evaluation refuses standsInWay notFirstIn orderKept number premiseRows orderRows marked stepped step
 set-pieces = refl

@@ -78,7 +78,7 @@ no-row-6 calendar today file r e = first-not-six (rows calendar today file r) (n
 
 pub needs-file : NeedsFile
 unfolding premiseRows
-needs-file r more e = rw e
+needs-file r more e = rw e refl
 
 pub create-held : CreateHeld
 unfolding premiseRows

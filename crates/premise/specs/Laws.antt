@@ -1,29 +1,23 @@
--- What the layer above relies on about one premise, as statements; proofs/ proves each. The book opens none of the rules themselves.
-use Prim.Native.Nat.{ℕ, _+_, _*_, _≤_}
+-- What the layer above relies on about one premise, as statements; proofs/ proves each. The book opens none of the rules themselves. What
+-- every step leaves and gives is stated in `premise_laws`.
+use Prim.Native.Nat.{ℕ, _+_}
 use mathlib.Core.Path.{_≡_}
 use mathlib.Core.Logic.{_↔_}
 use mathlib.Core.List.{List, [], _++_}
 use mathlib.Core.Option.{Option, none, some}
 use mathlib.Core.Bool.{true, false, cond}
 use lib.Dec.{eqb}
-use lib.ListN.{length}
-use Rattle.lists.specs.Search.{anyOf, Each}
+use Rattle.lists.specs.Search.{anyOf}
 use Rattle.records.specs.declared.Record.{Record}
-use Rattle.records.specs.declared.Notice.{Notice}
-use Rattle.records.specs.Records.{kindCreate, kindRetire, kindDayMark, wellFormed}
+use Rattle.records.specs.Records.{kindCreate, kindRetire, kindDayMark}
 use Rattle.premise.specs.declared.File.{File}
 use Rattle.premise.specs.declared.Answer.{Answer}
 use Rattle.premise.specs.declared.Answer.the-variants.{Accepted, NoSuchPremise, PremiseHeld, BookFull, NotNextDay}
-use Rattle.premise.specs.Orders.{mostOrders, blankFile, held}
+use Rattle.premise.specs.Orders.{blankFile}
 use Rattle.premise.specs.Steps.{is}
 use Rattle.premise.specs.WellKept.{fileKept, fileBlank, FileKept}
 use Rattle.premise.specs.Refusals.{Row, number, needsPremise, premiseRows, rows, firstRow, isHeld}
 use Rattle.premise.specs.OnePremise.{State, Given, accepted, refused, leaving, marked, step}
-
--- a property of the file, where there is one
-abbrev pub Held : (File → Type 0) → Option File → Type 0
-Held P none = Unit {0}
-Held P (some f) = P f
 
 -- ---- well kept
 -- the test and the facts behind it say the same
@@ -107,44 +101,3 @@ OnlyCreateMakes = (calendar : List ℕ) (today : ℕ) (r : Record) → is kindCr
 -- only a retire takes a file away
 abbrev pub OnlyRetireTakes : Type 0
 OnlyRetireTakes = (calendar : List ℕ) (today : ℕ) (f : File) (r : Record) → is kindRetire r ≡ false → isHeld (step calendar (record { today = today; file = some f }) r .state .file) ≡ true
-
--- a file is of a premise and well kept
-pub record KeptFor (premise : ℕ) (f : File) : Type 0 where
-  pub number : f .premise ≡ premise
-  pub kept : FileKept f
-
--- every step leaves a well-kept file of the same premise, or none
-abbrev pub StepKeeps : Type 0
-StepKeeps =
-    (calendar : List ℕ) (s : State) (r : Record) (premise : ℕ)
-    → wellFormed r ≡ true → (is kindDayMark r ≡ false → r .premise ≡ premise)
-    → Held (KeptFor premise) (s .file) → Held (KeptFor premise) (step calendar s r .state .file)
-
-abbrev pub MarkKeeps : Type 0
-MarkKeeps = (calendar : List ℕ) (today : ℕ) (f : File) (premise : ℕ) → KeptFor premise f → KeptFor premise (marked calendar today f .file)
-
--- ---- the notices
--- a notice of a premise
-abbrev pub Of : ℕ → Notice → Type 0
-Of premise n = n .premise ≡ premise
-
--- every notice carries the premise's number
-abbrev pub StepNotices : Type 0
-StepNotices =
-    (calendar : List ℕ) (s : State) (r : Record) (premise : ℕ) → Held (λ f. f .premise ≡ premise) (s .file) → Each (Of premise) (step calendar s r .notices)
-
-abbrev pub MarkNotices : Type 0
-MarkNotices = (calendar : List ℕ) (today : ℕ) (f : File) → Each (Of (f .premise)) (marked calendar today f .notices)
-
--- a day mark gives at most two notices for each held order
-abbrev pub MarkFew : Type 0
-MarkFew = (calendar : List ℕ) (today : ℕ) (f : File) → FileKept f → length (marked calendar today f .notices) ≤ 2 * length (held f)
-
--- a record of kinds 1 to 9 gives at most two, and two for each order that is then held
-abbrev pub mostOfRecord : ℕ
-mostOfRecord = 2 + 2 * mostOrders
-
-abbrev pub StepFew : Type 0
-StepFew =
-    (calendar : List ℕ) (s : State) (r : Record) → wellFormed r ≡ true → is kindDayMark r ≡ false → Held FileKept (s .file)
-    → length (step calendar s r .notices) ≤ mostOfRecord

@@ -3,9 +3,10 @@
 use Prim.Native.Nat.{ℕ, zero, suc, _+_}
 use mathlib.Core.List.{List, [], _∷_, _++_, map}
 use mathlib.Core.Option.{Option, none, some}
-use mathlib.Core.Bool.{Bool, true, false, _&&_}
+use mathlib.Core.Bool.{Bool, true, false, _&&_, Bool·beq}
 use lib.Dec.{eqb}
 use lib.ListN.{replicate}
+use Rattle.days.specs.Days.{noDay}
 use Rattle.days.specs.Pieces as days
 use Rattle.records.specs.declared.Record.{Record}
 use Rattle.records.specs.declared.Notice.{Notice}
@@ -13,8 +14,9 @@ use Rattle.records.specs.Records.{kindCreate, kindRetire, kindNewOrder, kindSch
 use Rattle.records.specs.Notices.{tdsp}
 use Rattle.premise.specs.declared.Order.{Order}
 use Rattle.premise.specs.declared.File.{File}
-use Rattle.premise.specs.Orders.{inReview, permitPending, scheduled, cancelPending, complete, cancelled, hasStatus}
+use Rattle.premise.specs.Orders.{inReview, permitPending, scheduled, cancelPending, complete, cancelled, hasStatus, businessDays, calendarDays}
 use Rattle.premise.specs.Passes.{codeOrder, codeMoveOut, codeScheduled, codeLosing, codeCancel, codePermit, codeUnexecutable, codeReject}
+use Rattle.premise.specs.WellKept.{orderKept}
 use Rattle.premise.specs.Refusals.{number, ordersOf}
 use Rattle.premise.specs.OnePremise.{State, Given, startState, step, runs, endState}
 
@@ -110,6 +112,8 @@ pub data Piece : Type 0 where
   supplies : List ℕ → ℕ → List Record → ℕ → ℕ → Piece
   -- calendar, start day, records, a line for each of them, the retailer at the end and the day since which it holds
   plays : List ℕ → ℕ → List Record → List Line → ℕ → ℕ → Piece
+  -- an order, whether it is well kept
+  keeps : Order → Bool → Piece
   -- a case about days alone
   onDays : days.Piece → Piece
 
@@ -177,6 +181,7 @@ holds (tells calendar start records notices) = sameNotices (lastNotices (runs ca
 holds (supplies calendar start records retailer since) = suppliedBy (endState calendar (startState start) records .file) retailer since
 holds (plays calendar start records lines retailer since) =
     sameLines (runs calendar (startState start) records) lines && suppliedBy (endState calendar (startState start) records .file) retailer since
+holds (keeps o is) = Bool·beq (orderKept o) is
 holds (onDays piece) = days.holds piece
 
 abbrev pub allHold : List Piece → Bool
@@ -223,6 +228,21 @@ switching from for = create 0 from ∷ order selfSelectedSwitch 50 1 202 ∷ sch
 -- a switch to 202 for 90, which arrives on 50 and is not scheduled
 abbrev asking : List Record
 asking = create 0 101 ∷ order selfSelectedSwitch 90 1 202 ∷ []
+
+-- an order of 202 for 50: its kind, status, scheduled day, and the days that it has waited and been in Cancel Pending
+abbrev standing : ℕ → ℕ → ℕ → ℕ → ℕ → Order
+standing kind status for waited pending =
+    record {
+      reference = 1;
+      kind = kind;
+      retailer = 202;
+      requested = 50;
+      scheduled = for;
+      status = status;
+      waited = businessDays waited;
+      pending = calendarDays pending;
+      told = 0;
+    }
 
 -- three switches scheduled for 30; on 25 the oldest is cancelled by its retailer and waits for the reply
 abbrev threeSwitches : List Record
@@ -377,6 +397,20 @@ pieces =
     (0 ∷ 0 ∷ 0 ∷ 14 ∷ 14 ∷ 14 ∷ 0 ∷ 14 ∷ 14 ∷ 0 ∷ 14 ∷ 14 ∷ 14 ∷ 0 ∷ 14 ∷ 14 ∷ 14 ∷ 0 ∷ 0 ∷ 14 ∷ 14 ∷ 14 ∷ 14 ∷ 14 ∷ 14 ∷ [])
     -- a move out's own notice
     ∷ tells (business 20) 10 (create 0 101 ∷ order moveOut 14 1 202 ∷ []) (sent codeMoveOut 14 1 tdsp ∷ [])
+    -- N never grows above 21: rejected cancels put an order back In Review, which its N of 20 ends at the next mark, and of 21 too
+    ∷ waits (business 90) 50
+    (create 0 101 ∷ order moveIn 80 1 202 ∷ marks 19 51 ++ (reply replyReject 1 ∷ mark 70 ∷ reply replyReject 1 ∷ mark 71 ∷ []))
+    (counts 21 0 0 ∷ [])
+    -- well kept: SD none in statuses 1 and 2 and a day in 3 and 5
+    ∷ keeps (standing moveIn inReview noDay 21 0) true ∷ keeps (standing moveIn inReview 12 21 0) false
+    ∷ keeps (standing moveIn permitPending noDay 0 0) true ∷ keeps (standing moveIn permitPending 12 0 0) false
+    ∷ keeps (standing moveIn scheduled 12 0 0) true ∷ keeps (standing moveIn scheduled noDay 0 0) false
+    ∷ keeps (standing moveIn complete noDay 0 0) false ∷ keeps (standing moveIn cancelled noDay 0 0) true
+    -- well kept: status 2 only with K 1, N at most 21, W at most 6 in status 4 and 0 elsewhere
+    ∷ keeps (standing moveOut permitPending noDay 0 0) false
+    ∷ keeps (standing moveIn inReview noDay 22 0) false
+    ∷ keeps (standing moveIn cancelPending noDay 0 6) true ∷ keeps (standing moveIn cancelPending noDay 0 7) false
+    ∷ keeps (standing moveIn inReview noDay 0 1) false
     -- document 01's own tape, for premise 7, line by line
     ∷ plays (business 4096) 0 (create 0 101 ∷ order standardSwitch 0 1 202 ∷ schedule 1 0 ∷ read 1 0 ∷ [])
     (line 0 [] ∷ line 0 (sent codeOrder 0 1 tdsp ∷ []) ∷ line 0 (sent codeScheduled 0 1 202 ∷ sent codeLosing 0 1 101 ∷ []) ∷ line 0 [] ∷ [])

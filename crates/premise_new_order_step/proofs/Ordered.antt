@@ -17,7 +17,7 @@ use Rattle.premise.specs.Passes.{notice}
 use Rattle.premise.specs.Steps.{newOrder, makeRoom, ordered}
 use Rattle.premise.specs.WellKept.{Tidy}
 use Rattle.premise.specs.Promises.{Writes, DoneToFile}
-use Rattle.premise.proofs.KeptNew.{room-few}
+use Rattle.premise_laws.proofs.KeptNew.{room-few}
 use Rattle.premise.proofs.KeptFiles.{length-held, tidy-with}
 use Rattle.premise_new_order_step.specs.Parts.{codeFor}
 

@@ -12,14 +12,14 @@ use Rattle.lists.specs.Search.{allOf, isAt}
 use Rattle.days.specs.Days.{noDay, isDay}
 use Rattle.days.specs.Window.{businessDays, inWindow}
 use Rattle.records.specs.declared.Notice.{Notice}
 use Rattle.premise.specs.declared.Order.{Order}
 use Rattle.premise.specs.Orders.{inReview, permitPending, scheduled, cancelPending, cancelled, hasStatus, isSwitch}
 use Rattle.premise.specs.Passes.{Change, passFrom}
 use Rattle.premise.specs.Clock.{toCancelPending, ticked, reviewed, permitAwaited, cancelAwaited}
 use Rattle.premise.specs.Evaluation.{isStanding, contends, kept, givesWay, settled, displaced, dropped, overtaken, lapsed, due, told}
 use Rattle.premise.specs.WellKept.{dayFits, orderKept}
 use Rattle.lists.proofs.TestLaws.{by-test, and-left, and-right}
-use Rattle.premise.proofs.Tests.{must, by-either}
+use Rattle.premise_laws.proofs.Tests.{must, by-either}
 
 abbrev pub total : (Order → ℕ) → List Order → ℕ
 total most [] = 0

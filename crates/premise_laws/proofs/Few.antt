@@ -13,21 +13,21 @@ use Rattle.days.specs.Days.{isBusinessDay}
 use Rattle.days.specs.Window.{windowWidth, inWindow}
 use Rattle.records.specs.declared.Record.{Record}
 use Rattle.records.specs.Records.{kindCreate, kindRetire, kindNewOrder, kindDayMark}
 use Rattle.premise.specs.declared.Order.{Order}
 use Rattle.premise.specs.declared.File.{File}
 use Rattle.premise.specs.Orders.{mostOrders, held, withOrders}
 use Rattle.premise.specs.Passes.{Outcome, Effect}
 use Rattle.premise.specs.Steps.{is, makeRoom, newOrder, named, orderAt, supplied, ordered, changed, onOrder, onScheduled, onPermit, onUnexecutable, onRead, onCancel, onReply}
 use Rattle.premise.specs.Clock.{clock, ticked}
 use Rattle.premise.specs.Evaluation.{settle, settled, dropDrops, dropped, lapse, lapsed, tell, told, evaluation, evaluated}
 use Rattle.premise.specs.WellKept.{orderKept, FileKept}
 use Rattle.premise.specs.Refusals.{number, firstRow, rows}
 use Rattle.premise.specs.OnePremise.{Given, effectOn, atPlace, marked, stepped, step}
-use Rattle.premise.specs.Laws.{Held, mostOfRecord, MarkFew, StepFew}
+use Rattle.premise_laws.specs.Laws.{Held, mostOfRecord, MarkFew, StepFew}
 use Rattle.lists.proofs.TestLaws.{by-test}
 use Rattle.premise.proofs.KeptFiles.{held-with}
-use Rattle.premise.proofs.Room.{held-most, accepted-room}
-use Rattle.premise.proofs.Allowance.{OnlyDays, window-days, Sends, few, sends-two, sends-either, total, pass-few, each-few, atMark, atSettling, atDropping, atTelling, done, settling-most, ticked-few, settled-few, dropped-few, lapsed-few, told-few}
+use Rattle.premise_laws.proofs.Room.{held-most, accepted-room}
+use Rattle.premise_laws.proofs.Allowance.{OnlyDays, window-days, Sends, few, sends-two, sends-either, total, pass-few, each-few, atMark, atSettling, atDropping, atTelling, done, settling-most, ticked-few, settled-few, dropped-few, lapsed-few, told-few}
 
 total-most : (most : Order → ℕ) → ((o : Order) → most o ≤ 2) → (os : List Order) → total most os ≤ 2 * length os
 total-most most h [] = omega arith

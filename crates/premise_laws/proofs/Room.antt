@@ -11,12 +11,12 @@ use Rattle.lists.specs.Search.{countOf}
 use Rattle.lists.proofs.TestLaws.{and-other}
 use Rattle.records.specs.declared.Record.{Record}
 use Rattle.records.specs.Records.{kindNewOrder}
 use Rattle.premise.specs.declared.File.{File}
 use Rattle.premise.specs.Orders.{mostOrders, isOpen, held}
 use Rattle.premise.specs.Steps.{is, makeRoom}
 use Rattle.premise.specs.Refusals.{number, firstRow, rows}
-use Rattle.premise.proofs.KeptNew.{room-few}
-use Rattle.premise.proofs.KeptRecords.{no-row}
+use Rattle.premise_laws.proofs.KeptNew.{room-few}
+use Rattle.premise_laws.proofs.KeptRecords.{no-row}
 
 pub held-most : (f : File) → f .count ≤ mostOrders → length (held f) ≤ mostOrders
 held-most f h = omega (arith, length-take (f .count) (f .orders))

@@ -11,17 +11,17 @@ use borrow.Author.Tests.{eqb-true}
 use Rattle.lists.proofs.TestLaws.{by-test}
 use Rattle.records.specs.declared.Record.{Record}
 use Rattle.records.specs.Records.{kindCreate, kindRetire, kindNewOrder, kindDayMark, wellFormed}
 use Rattle.premise.specs.declared.File.{File}
 use Rattle.premise.specs.Orders.{held, places}
 use Rattle.premise.specs.Passes.{Effect}
 use Rattle.premise.specs.Steps.{is, newFile, ordered, named}
 use Rattle.premise.specs.Refusals.{number, rows, firstRow}
 use Rattle.premise.specs.OnePremise.{Given, atPlace, stepped, effectOn, step}
-use Rattle.premise.specs.Laws.{Held, KeptFor, StepKeeps}
-use Rattle.premise.proofs.KeptPasses.{kept-with, evaluated-keeps, mark-keeps}
-use Rattle.premise.proofs.KeptRecords.{create-fits, NoRow, no-row}
-use Rattle.premise.proofs.KeptNew.{ordered-keeps}
-use Rattle.premise.proofs.KeptNamed.{named-keeps}
+use Rattle.premise_laws.specs.Laws.{Held, KeptFor, StepKeeps}
+use Rattle.premise_laws.proofs.KeptPasses.{kept-with, evaluated-keeps, mark-keeps}
+use Rattle.premise_laws.proofs.KeptRecords.{create-fits, NoRow, no-row}
+use Rattle.premise_laws.proofs.KeptNew.{ordered-keeps}
+use Rattle.premise_laws.proofs.KeptNamed.{named-keeps}
 
 -- what is left of a file or none, well kept
 abbrev Keeps : ℕ → Given → Type 0

@@ -20,19 +20,19 @@ use Rattle.days.specs.Laws.{FirstStart, NoStart}
 use Rattle.days.proofs.Laws.{switch-date-is}
 use Rattle.records.specs.declared.Record.{Record}
 use Rattle.records.specs.Records.{kindNewOrder, standardSwitch, unused, wellFormed}
 use Rattle.premise.specs.declared.Order.{Order}
 use Rattle.premise.specs.declared.File.{File}
 use Rattle.premise.specs.Orders.{mostOrders, isOpen, isClosed, held}
 use Rattle.premise.specs.Clock.{mostWaited}
 use Rattle.premise.specs.Steps.{is, requestedDay, newOrder, makeRoom, ordered, named}
 use Rattle.premise.specs.WellKept.{distinct}
 use Rattle.premise.specs.Refusals.{isNothing}
-use Rattle.premise.specs.Laws.{KeptFor}
-use Rattle.premise.proofs.KeptOrders.{OrderKept, orders-facts}
+use Rattle.premise_laws.specs.Laws.{KeptFor}
+use Rattle.premise_laws.proofs.KeptOrders.{OrderKept, orders-facts}
 use Rattle.premise.proofs.KeptFiles.{held-few}
-use Rattle.premise.proofs.KeptReferences.{hasReference, distinct-without, distinct-more}
-use Rattle.premise.proofs.KeptPasses.{header-of, kept-with}
-use Rattle.premise.proofs.KeptRecords.{order-fits, NoRow}
+use Rattle.premise_laws.proofs.KeptReferences.{hasReference, distinct-without, distinct-more}
+use Rattle.premise_laws.proofs.KeptPasses.{header-of, kept-with}
+use Rattle.premise_laws.proofs.KeptRecords.{order-fits, NoRow}
 
 -- ---- room for one more
 -- what holds of a file's orders, and without the oldest closed one, holds of those that are left

@@ -15,19 +15,19 @@ use Rattle.lists.proofs.TestLaws.{by-test, and-left, and-right, and-other}
 use Rattle.lists.proofs.SearchLaws.{each-set, each-at, place-in}
 use Rattle.records.specs.declared.Record.{Record}
 use Rattle.records.specs.Records.{kindScheduled, kindPermit, kindUnexecutable, kindRead, kindCancel, kindReply, moveIn, moveOut, aRetailerOrNone, wellFormed}
 use Rattle.premise.specs.declared.Order.{Order}
 use Rattle.premise.specs.declared.File.{File}
 use Rattle.premise.specs.Orders.{inReview, scheduled, hasKind, hasStatus, noRetailer, blank, held}
 use Rattle.premise.specs.Steps.{is, named, orderAt, taken, onPermit, onOrder, supplied, changed}
 use Rattle.premise.specs.Refusals.{namesOrder}
 use Rattle.premise.specs.OnePremise.{atPlace}
-use Rattle.premise.specs.Laws.{KeptFor}
-use Rattle.premise.proofs.KeptOrders.{OrderKept, orders-facts}
-use Rattle.premise.proofs.KeptChanges.{Leaves, LeavesBy, leaves-scheduled, leaves-permit, leaves-unexecutable, leaves-read, leaves-cancel, leaves-reply}
-use Rattle.premise.proofs.KeptReferences.{hasReference}
-use Rattle.premise.proofs.KeptPasses.{LeavesAll, HeaderKept, header-of, kept-after}
-use Rattle.premise.proofs.KeptRecords.{scheduled-fits, read-fits}
+use Rattle.premise_laws.specs.Laws.{KeptFor}
+use Rattle.premise_laws.proofs.KeptOrders.{OrderKept, orders-facts}
+use Rattle.premise_laws.proofs.KeptChanges.{Leaves, LeavesBy, leaves-scheduled, leaves-permit, leaves-unexecutable, leaves-read, leaves-cancel, leaves-reply}
+use Rattle.premise_laws.proofs.KeptReferences.{hasReference}
+use Rattle.premise_laws.proofs.KeptPasses.{LeavesAll, HeaderKept, header-of, kept-after}
+use Rattle.premise_laws.proofs.KeptRecords.{scheduled-fits, read-fits}
 use Rattle.premise.proofs.Taken.{taken-permit, taken-read}
 
 -- ---- the order that is named; row 14 did not hold
 module _ (f : File) (r : Record) (o : Order) (w : wellFormed r ≡ true) (n : (namesOrder r && not (taken r o)) ≡ false) (k : OrderKept o) where

@@ -10,19 +10,19 @@ use Rattle.lists.specs.Search.{allOf, Each}
 use Rattle.days.specs.Days.{isDay, isBusinessDay}
 use Rattle.days.specs.Window.{windowWidth, inWindow}
 use Rattle.records.specs.Records.{aPremise, aRetailerOrNone}
 use Rattle.premise.specs.declared.Order.{Order}
 use Rattle.premise.specs.declared.File.{File}
 use Rattle.premise.specs.Orders.{mostOrders, held, withOrders}
 use Rattle.premise.specs.Passes.{Change, Outcome, passFrom, andThen}
 use Rattle.premise.specs.Clock.{ticked, clock}
 use Rattle.premise.specs.Evaluation.{settled, settle, dropped, dropDrops, lapsed, lapse, told, tell, evaluation, evaluated}
 use Rattle.premise.specs.WellKept.{orderKept, distinct}
 use Rattle.premise.specs.OnePremise.{marked}
-use Rattle.premise.specs.Laws.{KeptFor, MarkKeeps}
-use Rattle.premise.proofs.KeptOrders.{OrderKept, orders-facts, orders-test}
-use Rattle.premise.proofs.KeptChanges.{Leaves, leaves-ticked, leaves-settled, leaves-dropped, leaves-lapsed, leaves-told}
+use Rattle.premise_laws.specs.Laws.{KeptFor, MarkKeeps}
+use Rattle.premise_laws.proofs.KeptOrders.{OrderKept, orders-facts, orders-test}
+use Rattle.premise_laws.proofs.KeptChanges.{Leaves, leaves-ticked, leaves-settled, leaves-dropped, leaves-lapsed, leaves-told}
 use Rattle.premise.proofs.KeptFiles.{held-with, tidy-with, held-few}
-use Rattle.premise.proofs.KeptReferences.{references, distinct-same}
+use Rattle.premise_laws.proofs.KeptReferences.{references, distinct-same}
 
 -- orders afterwards: kept, with the references that they had
 pub record LeavesAll (before after : List Order) : Type 0 where

@@ -12,19 +12,19 @@ use Rattle.days.specs.Window.{windowWidth, inWindow}
 use Rattle.records.specs.declared.Record.{Record}
 use Rattle.records.specs.declared.Notice.{Notice}
 use Rattle.records.specs.Records.{kindCreate, kindRetire, kindNewOrder, kindDayMark}
 use Rattle.premise.specs.declared.Order.{Order}
 use Rattle.premise.specs.declared.File.{File}
 use Rattle.premise.specs.Orders.{held}
 use Rattle.premise.specs.Passes.{Change, Outcome, Effect, passFrom, andThen, onFile}
 use Rattle.premise.specs.Steps.{is, named, supplied, ordered, changed, onOrder, onScheduled, onPermit, onUnexecutable, onRead, onCancel, onReply}
 use Rattle.premise.specs.Clock.{clock, ticked, reviewed, permitAwaited, cancelAwaited}
 use Rattle.premise.specs.Evaluation.{settle, settled, dropDrops, dropped, lapse, lapsed, tell, told, evaluation, evaluated}
 use Rattle.premise.specs.Refusals.{firstRow, rows}
 use Rattle.premise.specs.OnePremise.{Given, effectOn, atPlace, followed, marked, stepped, step}
-use Rattle.premise.specs.Laws.{Held, Of, StepNotices, MarkNotices}
+use Rattle.premise_laws.specs.Laws.{Held, Of, StepNotices, MarkNotices}
 use Rattle.lists.proofs.TestLaws.{by-test}
 use Rattle.lists.proofs.SearchLaws.{each-append}
 use Rattle.premise.proofs.Answers.{either}
 
 module _ (P : Notice → Type 0) where
   pub each-pass : (g : ℕ → Order → Change) → ((i : ℕ) (o : Order) → Each P (g i o .notices)) → (i : ℕ) (os : List Order) → Each P (passFrom g i os .notices)

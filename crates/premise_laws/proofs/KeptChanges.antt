@@ -11,15 +11,15 @@ use Rattle.lists.proofs.TestLaws.{by-test}
 use Rattle.days.specs.Days.{isDay}
 use Rattle.records.specs.declared.Record.{Record}
 use Rattle.records.specs.Records.{moveIn, replyAccept}
 use Rattle.premise.specs.declared.Order.{Order}
 use Rattle.premise.specs.declared.File.{File}
 use Rattle.premise.specs.Orders.{inReview, permitPending, scheduled, cancelPending, complete, cancelled, unexecutable, hasStatus, hasKind, businessDays, calendarDays, withWaited, asCancelled}
 use Rattle.premise.specs.Passes.{Change}
 use Rattle.premise.specs.Clock.{mostWaited, longReview, shortReview, mostPending, grown, reviewed, permitAwaited, cancelAwaited, ticked}
 use Rattle.premise.specs.Evaluation.{givesWay, settled, displaced, dropped, overtaken, lapsed, due, told}
 use Rattle.premise.specs.Steps.{onScheduled, onPermit, onUnexecutable, onRead, onCancel, onReply}
 use Rattle.premise.specs.WellKept.{dayFits, permitFits, pendingFits}
-use Rattle.premise.proofs.KeptOrders.{OrderKept, in-status, day-or-none, no-day}
+use Rattle.premise_laws.proofs.KeptOrders.{OrderKept, in-status, day-or-none, no-day}
 
 -- an order afterwards: kept, with the reference that it had
 pub record Leaves (before after : Order) : Type 0 where

@@ -1,0 +1,13 @@
+pub mod KeptOrders
+pub mod KeptChanges
+pub mod KeptReferences
+pub mod KeptPasses
+pub mod KeptRecords
+pub mod KeptNew
+pub mod KeptNamed
+pub mod KeptSteps
+pub mod Tests
+pub mod Notices
+pub mod Room
+pub mod Allowance
+pub mod Few

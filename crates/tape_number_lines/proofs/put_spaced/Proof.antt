@@ -1,12 +1,12 @@
--- `tape_numbers::put_spaced` meets its contract. The loop's invariant: the first i numbers are put. The measure is the numbers left.
+-- `tape_number_lines::put_spaced` meets its contract. The loop's invariant: the first i numbers are put. The measure is the numbers left.
 -- Assumes nothing.
 use borrow.Author.Needs.{needs}
 use Prim.Native.Nat.{_-_}
 use native.Mathlib.Omega.{arith}
 use lib.ListN.{length, length-set}
-use Rattle.tape_numbers.proofs.Lined.{Lined, lined-none, lined-length, lined-room, lined-more, lined-inside, lined-all}
-use Rattle.tape_numbers.proofs.put_spaced.Statement.{statement}
-use Rattle.tape_numbers.proofs.put_spaced.Tie as tie
+use Rattle.tape_number_lines.proofs.Lined.{Lined, lined-none, lined-length, lined-room, lined-number, lined-more, lined-inside, lined-all}
+use Rattle.tape_number_lines.proofs.put_spaced.Statement.{statement}
+use Rattle.tape_number_lines.proofs.put_spaced.Tie as tie
 
 abbrev Inv-loop : tie.InvT-loop
 Inv-loop numbers start out₀ at₀ i₀ out at i = Lined numbers start out₀ out at i
@@ -19,16 +19,27 @@ loop-holds c =
     let a = c .before .before .args in
     lined-none (a .numbers .now) (a .start) (a .out .now)
 
-mul-put-next : tie.Need-mul-put-next Inv-loop μ-loop
-mul-put-next c = search needs
+slice-write-out : tie.Need-slice-write-out Inv-loop μ-loop
+slice-write-out c =
+    let l = c .before in
+    omega (arith, lined-room (l .loop .inv) (l .before .before .before .pre) (omega arith))
 
-shared-slice-read-put-next : tie.Need-shared-slice-read-put-next Inv-loop μ-loop
-shared-slice-read-put-next c = search needs
+mul-put-number : tie.Need-mul-put-number Inv-loop μ-loop
+mul-put-number c = search needs
 
-put-next-requires : tie.Need-put-next-requires Inv-loop μ-loop
-put-next-requires c κs =
+shared-slice-read-put-number : tie.Need-shared-slice-read-put-number Inv-loop μ-loop
+shared-slice-read-put-number c = search needs
+
+add-put-number : tie.Need-add-put-number Inv-loop μ-loop
+add-put-number c =
+    let l = c .before .before in
+    let room = l .before .before .before .pre in
+    omega (arith, lined-room (l .loop .inv) room (omega arith), lined-length (l .loop .inv) room)
+
+put-number-requires : tie.Need-put-number-requires Inv-loop μ-loop
+put-number-requires c κs =
     let l = c .before .before .before in
-    lined-room (l .loop .inv) (l .before .before .before .pre) (omega arith)
+    lined-number (l .loop .inv) (l .before .before .before .pre) (omega arith)
 
 add-i : tie.Need-add-i Inv-loop μ-loop
 add-i c = search needs
@@ -40,10 +51,10 @@ loop-again : tie.Need-loop-again Inv-loop μ-loop
 loop-again c =
     let p = c .before .before in
     let l = p .before .before .before .before in
-    lined-more (l .loop .inv) (l .before .before .before .pre) (omega arith) (p .put-next .ensures)
+    lined-more (l .loop .inv) (l .before .before .before .pre) (omega arith) (p .put-number .ensures)
 
-slice-write-out : tie.Need-slice-write-out Inv-loop μ-loop
-slice-write-out c =
+slice-write-out-2 : tie.Need-slice-write-out-2 Inv-loop μ-loop
+slice-write-out-2 c =
     let l = c .before in
     lined-inside (l .loop .inv) (l .before .before .before .pre) (omega arith)
 
@@ -70,13 +81,15 @@ put-spaced-spec =
     Inv-loop
     μ-loop
     loop-holds
-    mul-put-next
-    shared-slice-read-put-next
-    put-next-requires
+    slice-write-out
+    mul-put-number
+    shared-slice-read-put-number
+    add-put-number
+    put-number-requires
     add-i
     loop-less
     loop-again
-    slice-write-out
+    slice-write-out-2
     add-result
     same-length
     returns)

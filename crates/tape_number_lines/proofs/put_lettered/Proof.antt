@@ -1,9 +1,9 @@
--- `tape_numbers::put_lettered` meets its contract: the letter, and the numbers behind it. Assumes nothing.
+-- `tape_number_lines::put_lettered` meets its contract: the letter, and the numbers behind it. Assumes nothing.
 use borrow.Author.Needs.{needs}
 use Rattle.tape_numbers.specs.Numbers.{spaced}
 use Rattle.tape_numbers.proofs.Puts.{puts-length, room-after-one, puts-after-one}
-use Rattle.tape_numbers.proofs.put_lettered.Statement.{statement}
-use Rattle.tape_numbers.proofs.put_lettered.Tie as tie
+use Rattle.tape_number_lines.proofs.put_lettered.Statement.{statement}
+use Rattle.tape_number_lines.proofs.put_lettered.Tie as tie
 
 slice-write-out : tie.Need-slice-write-out
 slice-write-out c = search needs

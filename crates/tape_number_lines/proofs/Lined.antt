@@ -5,9 +5,9 @@ use mathlib.Core.List.{List, [], _∷_, _++_}
 use native.Mathlib.Omega.{arith}
 use lib.ListN.{length, drop, set, getD}
 use Rattle.lists.proofs.Find.{drop-first, drop-none}
 use Rattle.tape_numbers.specs.Numbers.{space, newline, decimal, spaced, Puts}
-use Rattle.tape_numbers.proofs.Puts.{puts-as, puts-one}
+use Rattle.tape_numbers.proofs.Puts.{puts-as, puts-one, room-after-one, puts-after-one}
 use Rattle.tape_numbers.proofs.Putting.{Putting, putting-none, putting-length, putting-room, putting-more, putting-last}
 
 -- The first i numbers are put.
 pub record Lined (numbers : List ℕ) (start : ℕ) (before after : List ℕ) (at i : ℕ) : Type 0 where
@@ -24,16 +24,23 @@ module _ {numbers : List ℕ} {start : ℕ} {b c : List ℕ} {at i : ℕ} (l : L
   pub lined-length : length c ≡ length b
   lined-length = putting-length (l .put) room
 
-  -- one number more
+  -- one number more: a space, and the number behind it
   module _ (h : i < length numbers) where
-    first : spaced (drop i numbers) ≡ next numbers i ++ spaced (drop (i + 1) numbers)
+    abbrev rest : List ℕ
+    rest = spaced (drop (i + 1) numbers)
+
+    first : spaced (drop i numbers) ≡ next numbers i ++ rest
     first = ap spaced (drop-first 0 numbers i h)
 
     pub lined-room : at + length (next numbers i) ≤ length c
-    lined-room = putting-room (l .put) room (next numbers i) (spaced (drop (i + 1) numbers)) first
+    lined-room = putting-room (l .put) room (next numbers i) rest first
 
-    pub lined-more : {d : List ℕ} {to : ℕ} → Puts at c d to (next numbers i) → Lined numbers start b d to (i + 1)
-    lined-more p = record { put = putting-more (l .put) room (next numbers i) (spaced (drop (i + 1) numbers)) first p }
+    pub lined-number : at + 1 + length (decimal (getD numbers i 0)) ≤ length (set c at space)
+    lined-number = room-after-one at c space (decimal (getD numbers i 0)) lined-room
+
+    pub lined-more : {d : List ℕ} {to : ℕ} → Puts (at + 1) (set c at space) d to (decimal (getD numbers i 0)) → Lined numbers start b d to (i + 1)
+    lined-more p =
+        record { put = putting-more (l .put) room (next numbers i) rest first (puts-after-one at c space (decimal (getD numbers i 0)) lined-room p) }
 
   -- the end of the line
   module _ (h : length numbers ≤ i) where

@@ -1,4 +1,4 @@
-// A record's fields, each read from its bytes.
+// The premise layer: a record's fields, each read from its bytes. Document 01, "Records".
 ghost use mathlib.Core.Path.{_≡_};
 ghost use lib.ListN.{length};
 ghost use Rattle.records.specs.Layout.{recordLength, zeroField, fieldOf};

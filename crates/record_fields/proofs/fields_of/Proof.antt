@@ -1,11 +1,11 @@
--- `record_bytes::fields::fields_of` meets its contract: each field is read from its bytes. Assumes nothing.
+-- `record_fields::fields_of` meets its contract: each field is read from its bytes. Assumes nothing.
 use borrow.Author.Needs.{needs}
 use native.Mathlib.Omega.{arith}
 use mathlib.Core.Path.{sym}
 use Rattle.records.specs.Layout.{fieldOf}
 use Rattle.record_numbers.proofs.Numbers.{read-one}
-use Rattle.record_bytes.proofs.fields.fields_of.Statement.{statement}
-use Rattle.record_bytes.proofs.fields.fields_of.Tie as tie
+use Rattle.record_fields.proofs.fields_of.Statement.{statement}
+use Rattle.record_fields.proofs.fields_of.Tie as tie
 
 shared-slice-read-t3 : tie.Need-shared-slice-read-t3
 shared-slice-read-t3 c = search needs

@@ -1,8 +1,8 @@
--- `record_bytes::fields::zero_field_of` meets its contract: the field is the four bytes from 20 on. Assumes nothing.
+-- `record_fields::zero_field_of` meets its contract: the field is the four bytes from 20 on. Assumes nothing.
 use borrow.Author.Needs.{needs}
 use Rattle.records.specs.Layout.{fieldOf}
-use Rattle.record_bytes.proofs.fields.zero_field_of.Statement.{statement}
-use Rattle.record_bytes.proofs.fields.zero_field_of.Tie as tie
+use Rattle.record_fields.proofs.zero_field_of.Statement.{statement}
+use Rattle.record_fields.proofs.zero_field_of.Tie as tie
 
 four-requires : tie.Need-four-requires
 four-requires c κs = search needs

@@ -11,7 +11,7 @@ pub fn say(letter: u8, numbers: &[u64])
     requires { ⌜ length (now numbers) ≤ 11 ⌝ }
 {
     let mut out = [0u8; 256];
-    let stop = tape_numbers::put_lettered(letter, numbers, 0, &mut out);
+    let stop = tape_number_lines::put_lettered(letter, numbers, 0, &mut out);
     io::write_all(libc::STDOUT_FILENO, &out[..stop]);
 }
 

@@ -5,12 +5,8 @@ ghost use lib.ListN.{length};
 ghost use Rattle.records.specs.Layout.{recordLength};
 ghost use Rattle.records.specs.Records.{reading};
 ghost use Rattle.records.specs.Notices.{decode};
-
-// A record's fields, each read from its bytes.
-mod fields;
-
-use fields::fields_of;
-use fields::zero_field_of;
+use record_fields::fields_of;
+use record_fields::zero_field_of;
 use record_kinds::well_formed;
 use records::Notice;
 use records::RECORD_LENGTH;

@@ -23,11 +23,11 @@ fn put_ending(p: Playing, start: usize, out: &mut [u8]) -> usize
     let mut i: usize = 0;
     while i < n {
         let f = b.files[i];
-        at = tape_text::put_file(f.premise, f.retailer, f.since, at, out);
+        at = tape_end_text::put_file(f.premise, f.retailer, f.since, at, out);
         i += 1;
     }
     let reader = p.reader;
-    tape_text::put_total(reader.accepted, reader.refused, at, out)
+    tape_end_text::put_total(reader.accepted, reader.refused, at, out)
 }
 
 // How a stretch closes, by the place that it has reached of the whole tape: where every record is played and the end finds room, the end is put.

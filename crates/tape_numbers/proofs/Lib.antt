@@ -2,5 +2,4 @@ pub mod Digits
 pub mod Puts
 pub mod Filled
 pub mod Putting
-pub mod Lined
 pub mod Lengths

@@ -1,13 +1,8 @@
-// The tape program's numbers, in base ten, and the lines that they stand in, written to a buffer behind what stands there.
+// The tape layer: numbers in base ten, written to a buffer behind what stands there.
 ghost use mathlib.Core.Path.{_≡_};
-ghost use mathlib.Core.List.{_∷_};
 ghost use Prim.Native.Nat.{_+_, _≤_};
 ghost use lib.ListN.{length};
-ghost use Rattle.tape_numbers.specs.Numbers.{space, decimal, spaced, lettered, Puts};
-
-const SPACE: u8 = b' ';
-
-const NEWLINE: u8 = b'\n';
+ghost use Rattle.tape_numbers.specs.Numbers.{decimal, Puts};
 
 const DIGIT_ZERO: u8 = b'0';
 
@@ -39,37 +34,4 @@ pub fn put_number(n: u64, start: usize, out: &mut [u8]) -> usize
     }
     out[start] = DIGIT_ZERO + left as u8;
     stop
-}
-
-// A number with a space before it.
-fn put_next(n: u64, start: usize, out: &mut [u8]) -> usize
-    requires { ⌜ start + length (space ∷ decimal n) ≤ length (now out) ⌝ }
-    ensures { λ r. ⌜ Puts start (now (out .entry)) (now (out .exit)) r (space ∷ decimal n) ⌝ }
-{
-    out[start] = SPACE;
-    put_number(n, start + 1, out)
-}
-
-// Numbers with a space before each, to the end of the line.
-pub fn put_spaced(numbers: &[u64], start: usize, out: &mut [u8]) -> usize
-    requires { ⌜ start + length (spaced (now numbers)) ≤ length (now out) ⌝ }
-    ensures { λ r. ⌜ Puts start (now (out .entry)) (now (out .exit)) r (spaced (now (numbers .entry))) ⌝ }
-{
-    let mut at = start;
-    let mut i: usize = 0;
-    while i < numbers.len() {
-        at = put_next(numbers[i], at, out);
-        i += 1;
-    }
-    out[at] = NEWLINE;
-    at + 1
-}
-
-// A line that begins with a letter.
-pub fn put_lettered(letter: u8, numbers: &[u64], start: usize, out: &mut [u8]) -> usize
-    requires { ⌜ start + length (lettered letter (now numbers)) ≤ length (now out) ⌝ }
-    ensures { λ r. ⌜ Puts start (now (out .entry)) (now (out .exit)) r (lettered letter (now (numbers .entry))) ⌝ }
-{
-    out[start] = letter;
-    put_spaced(numbers, start + 1, out)
 }

@@ -1,21 +1,18 @@
-// The tape program's text: each line of document 01's section "The tape program", written to a buffer behind what stands there.
+// The tape layer: the line of a record and that of a notice, written to a buffer behind what stands there. The definitions of all the lines of
+// document 01, "The tape program", stand in specs/; `tape_end_text` writes those at the end.
 ghost use Prim.Native.Nat.{_+_, _≤_};
 ghost use lib.ListN.{length};
 ghost use Rattle.records.specs.Layout.{recordLength};
 ghost use Rattle.records.specs.Notices.{decode};
 ghost use Rattle.tape_numbers.specs.Numbers.{Puts};
-ghost use Rattle.tape_text.specs.Text.{recordLine, noticeLine, fileLine, totalLine};
+ghost use Rattle.tape_text.specs.Text.{recordLine, noticeLine};
 use record_bytes::read_notice;
-use tape_numbers::put_lettered;
+use tape_number_lines::put_lettered;
+use tape_number_lines::put_spaced;
 use tape_numbers::put_number;
-use tape_numbers::put_spaced;
 
-// The letters that begin a line.
+// The letter that begins a notice's line.
 const NOTICE: u8 = b'n';
-
-const FILE: u8 = b'p';
-
-const TOTAL: u8 = b't';
 
 // The line of a record: its place, its answer, and how many notices it gave.
 pub fn put_record(place: usize, answer: u8, n: usize, start: usize, out: &mut [u8]) -> usize
@@ -41,22 +38,4 @@ pub fn put_notice(bytes: &[u8], start: usize, out: &mut [u8]) -> usize
     let addressee = notice.addressee as u64;
     let numbers = [code, kind, day, reference, premise, addressee];
     put_lettered(NOTICE, &numbers, start, out)
-}
-
-// The line of a file: its premise, its retailer, and the day since which the retailer holds.
-pub fn put_file(premise: u64, retailer: u32, since: u16, start: usize, out: &mut [u8]) -> usize
-    requires { ⌜ start + length (fileLine premise retailer since) ≤ length (now out) ⌝ }
-    ensures { λ r. ⌜ Puts start (now (out .entry)) (now (out .exit)) r (fileLine premise retailer since) ⌝ }
-{
-    let numbers = [premise, retailer as u64, since as u64];
-    put_lettered(FILE, &numbers, start, out)
-}
-
-// The last line: how many records were accepted and how many refused.
-pub fn put_total(accepted: usize, refused: usize, start: usize, out: &mut [u8]) -> usize
-    requires { ⌜ start + length (totalLine accepted refused) ≤ length (now out) ⌝ }
-    ensures { λ r. ⌜ Puts start (now (out .entry)) (now (out .exit)) r (totalLine accepted refused) ⌝ }
-{
-    let numbers = [accepted as u64, refused as u64];
-    put_lettered(TOTAL, &numbers, start, out)
 }

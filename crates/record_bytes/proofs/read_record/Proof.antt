@@ -13,13 +13,13 @@ returns : tie.Need-returns
 returns c = sym (reading-length (c .before .before .args .bytes .now) (omega arith))
 
 zero-field-of-requires : tie.Need-zero-field-of-requires
-zero-field-of-requires c κs = search needs
+zero-field-of-requires c κs = omega arith
 
 returns-2 : tie.Need-returns-2
 returns-2 c = sym (reading-zeros _ (λ e. c .if2 .taken (c .before .zero-field-of .ensures ∙ e)))
 
 fields-of-requires : tie.Need-fields-of-requires
-fields-of-requires c κs = search needs
+fields-of-requires c κs = omega arith
 
 well-formed-requires : tie.Need-well-formed-requires
 well-formed-requires c κs = search needs

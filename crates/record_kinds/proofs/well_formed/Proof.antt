@@ -1,38 +1,32 @@
--- `record_kinds::well_formed` meets its contract: in each arm the kind picks the case of `wellFormed`; there is no kind below or past them. Assumes nothing.
+-- `record_kinds::well_formed` meets its contract: in each arm the kind picks the case of `wellFormed`, whose tests the arm has in its order or
+-- asks of a function; there is no kind below or past them. Assumes nothing.
 use borrow.Author.Needs.{needs}
 use native.Mathlib.Omega.{arith}
-use mathlib.Core.Path.{sym, _∙_}
+use mathlib.Core.Path.{refl, sym, _∙_}
 use Rattle.records.specs.Records.{kindCreate, kindRetire, kindNewOrder, kindDayMark}
 use Rattle.records.proofs.ByKind.{formed-at, formed-past}
 use Rattle.record_kinds.proofs.well_formed.Statement.{statement}
 use Rattle.record_kinds.proofs.well_formed.Tie as tie
 
-create-holds-requires : tie.Need-create-holds-requires
-create-holds-requires c κs = search needs
-
-retire-holds-requires : tie.Need-retire-holds-requires
-retire-holds-requires c κs = search needs
-
 new-order-holds-requires : tie.Need-new-order-holds-requires
 new-order-holds-requires c κs = search needs
-
-day-mark-holds-requires : tie.Need-day-mark-holds-requires
-day-mark-holds-requires c κs = search needs
 
 named-order-holds-requires : tie.Need-named-order-holds-requires
 named-order-holds-requires c κs = search needs
 
 returns : tie.Need-returns
-returns c = c .create-holds .ensures ∙ sym (formed-at kindCreate _ (c .before .match .keys1))
+returns c = sym (formed-at kindCreate _ (c .before .before .before .before .before .match .keys1))
 
 returns-2 : tie.Need-returns-2
-returns-2 c = c .retire-holds .ensures ∙ sym (formed-at kindRetire _ (c .before .match .keys2))
+returns-2 c = sym (formed-at kindRetire _ (c .before .before .before .before .before .match .keys2))
 
 returns-3 : tie.Need-returns-3
 returns-3 c = c .new-order-holds .ensures ∙ sym (formed-at kindNewOrder _ (c .before .match .keys3))
 
 returns-4 : tie.Need-returns-4
-returns-4 c = c .day-mark-holds .ensures ∙ sym (formed-at kindDayMark _ (c .before .match .keys4))
+returns-4 c =
+    let arm = c .before .before .before .before .before in
+    rw (formed-at kindDayMark (arm .before .args .fields) (arm .match .keys4)) refl
 
 returns-5 : tie.Need-returns-5
 returns-5 c = search needs
@@ -45,17 +39,4 @@ returns-7 c = sym (formed-past _ (omega arith))
 
 pub well-formed-spec : {M : Type 1} → statement M
 well-formed-spec =
-    tie.close
-    (tie.spec
-    create-holds-requires
-    retire-holds-requires
-    new-order-holds-requires
-    day-mark-holds-requires
-    named-order-holds-requires
-    returns
-    returns-2
-    returns-3
-    returns-4
-    returns-5
-    returns-6
-    returns-7)
+    tie.close (tie.spec new-order-holds-requires named-order-holds-requires returns returns-2 returns-3 returns-4 returns-5 returns-6 returns-7)

@@ -84,7 +84,7 @@ pub fn answer_for(today: u16, file: File, r: Record, requested: u16) -> Answer
     if premise_first_in::not_first_in(file, r.detail, requested) {
         return Answer::NotFirstIn;
     }
-    if premise_stack::is_full(file) {
+    if premise_full::is_full(file) {
         return Answer::StackFull;
     }
     Answer::Accepted

@@ -1,15 +1,16 @@
--- `premise_orders::any_open` meets its contract. The loop's invariant: an order is open from the place reached on where one is at all.
+-- `premise_open::any_open` meets its contract. The loop's invariant: an order is open from the place reached on where one is at all.
 -- The measure is the orders left. Assumes nothing.
 use Prim.Native.Nat.{_≤_, _-_}
 use mathlib.Core.Path.{_≡_, sym, _∙_}
+use native.Mathlib.Omega.{arith}
 use lib.ListN.{drop}
 use borrow.Author.Needs.{needs}
 use Rattle.lists.specs.Search.{anyOf}
 use Rattle.lists.proofs.Find.{any-hit, any-next, any-end}
 use Rattle.premise.specs.Orders.{isOpen, held}
 use Rattle.premise.proofs.Places.{first-held, none-held}
-use Rattle.premise_orders.proofs.any_open.Statement.{statement}
-use Rattle.premise_orders.proofs.any_open.Tie as tie
+use Rattle.premise_open.proofs.any_open.Statement.{statement}
+use Rattle.premise_open.proofs.any_open.Tie as tie
 
 abbrev Inv-loop : tie.InvT-loop
 Inv-loop file n at₀ at = (at ≤ n) × (anyOf isOpen (drop at (held file)) ≡ anyOf isOpen (held file))
@@ -24,7 +25,7 @@ mul-o : tie.Need-mul-o Inv-loop μ-loop
 mul-o c = search needs
 
 element-copy-out-o : tie.Need-element-copy-out-o Inv-loop μ-loop
-element-copy-out-o c = search needs
+element-copy-out-o c = omega (arith, c .before .loop .inv .0, c .before .before .pre .few, c .loop-test)
 
 is-open-requires : tie.Need-is-open-requires Inv-loop μ-loop
 is-open-requires c κs = search needs

@@ -1,31 +1,11 @@
 // The premise layer, inner: whether a file is well kept. Every file is answered, whatever its fields hold. The test is made on every
-// place of a book at every public call, so each function leaves at the first field out of range.
+// place of a book at every public call; it leaves at the first part that fails.
 ghost use mathlib.Core.Path.{_≡_};
-ghost use mathlib.Core.Bool.{_&&_};
 ghost use Prim.Native.Nat.{_≤_};
-ghost use lib.Dec.{leb};
 ghost use Rattle.lists.specs.Search.{allOf};
-ghost use Rattle.days.specs.Days.{isDay};
-ghost use Rattle.records.specs.Records.{aPremise, aRetailerOrNone};
 ghost use Rattle.premise.specs.Orders.{mostOrders, held};
 ghost use Rattle.premise.specs.WellKept.{orderKept, distinct, fileKept};
 use premise::File;
-
-// Whether a file's fields besides its orders are in range.
-fn head_kept(file: File) -> bool
-    ensures { λ r. ⌜ r ≡ aPremise (file .premise) && aRetailerOrNone (file .retailer) && isDay (file .since) && leb (file .count) mostOrders ⌝ }
-{
-    if file.premise == 0 {
-        return false;
-    }
-    if records::LAST_RETAILER < file.retailer {
-        return false;
-    }
-    if days::LAST_DAY < file.since {
-        return false;
-    }
-    file.count <= premise::MOST_ORDERS
-}
 
 // Whether every order held is in range.
 fn orders_kept(file: File) -> bool
@@ -71,7 +51,10 @@ fn references_distinct(file: File) -> bool
 pub fn file_kept(file: File) -> bool
     ensures { λ r. ⌜ r ≡ fileKept file ⌝ }
 {
-    if !head_kept(file) {
+    if !((file.premise != 0)
+        & (file.retailer <= records::LAST_RETAILER)
+        & (file.since <= days::LAST_DAY)
+        & (file.count <= premise::MOST_ORDERS)) {
         return false;
     }
     if !orders_kept(file) {

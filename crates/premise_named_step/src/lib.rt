@@ -38,7 +38,7 @@ fn accept_named(
     let o = file.orders[i];
     let s = premise_records::change_order(file, r, o, standing, buffer);
     let t = s.order;
-    let f = premise_named::supply(file, r, o);
+    let f = premise_supply::supply(file, r, o);
     let g = premise_orders::with_order(f, i, t);
     premise_passes::evaluate(calendar, today, last, g, s.sent, buffer)
 }

@@ -1,30 +1,20 @@
--- Laws of a file's orders: whether one is open, one replaced, one read, and the place of one found. Assumes nothing.
-use Prim.Native.Nat.{ℕ, _-_, _<_, _≤_}
+-- Laws of a file's orders: one replaced, one read, and the place of one found. Assumes nothing.
+use Prim.Native.Nat.{ℕ, _-_, _<_}
 use mathlib.Core.Path.{_≡_, sym, ap, ap₂, _∙_}
 use mathlib.Core.List.{List, _++_}
-use mathlib.Core.Bool.{Bool, false}
+use mathlib.Core.Bool.{Bool}
 use native.Mathlib.Omega.{arith}
-use lib.Dec.{leb}
 use lib.ListN.{length, getD, set, replicate, length-set}
 use lib.Seq.{getD-take, set-append-left}
-use borrow.Author.Tests.{le-leb, lt-leb}
 use Rattle.lists.specs.declared.Found.the-variants.{At}
 use Rattle.lists.specs.Search.{placeOf}
 use Rattle.lists.proofs.Find.{place-below}
 use Rattle.premise.specs.declared.Order.{Order}
 use Rattle.premise.specs.declared.File.{File}
-use Rattle.premise.specs.Orders.{mostOrders, inReview, cancelPending, isOpen, blank, held, places, withOrders, withSupply}
+use Rattle.premise.specs.Orders.{mostOrders, blank, held, places, withOrders, withSupply}
 use Rattle.premise.specs.WellKept.{Tidy}
 use Rattle.premise.proofs.KeptFiles.{tidy-with, length-held}
 use Rattle.premise.proofs.Places.{withPlaces}
-
--- whether an order is open, by its status
-module _ (o : Order) where
-  pub closed-below : o .status < inReview → false ≡ isOpen o
-  closed-below h = rw (lt-leb inReview (o .status) h)
-
-  pub open-to-pending : inReview ≤ o .status → leb (o .status) cancelPending ≡ isOpen o
-  open-to-pending h = rw (le-leb inReview (o .status) h)
 
 -- an order replaced in its place
 places-set : (os : List Order) (i : ℕ) (o : Order) → i < length os → set (places os) i o ≡ places (set os i o)

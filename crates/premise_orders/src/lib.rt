@@ -1,24 +1,14 @@
-// The premise layer, inner: a file's orders (find one, replace one, whether one is open).
+// The premise layer, inner: a file's orders: one found, one replaced.
 ghost use mathlib.Core.Path.{_≡_};
 ghost use Prim.Native.Nat.{_<_};
 ghost use lib.Dec.{eqb};
 ghost use lib.ListN.{set};
-ghost use Rattle.lists.specs.Search.{anyOf, placeOf};
-ghost use Rattle.premise.specs.Orders.{isOpen, held, withOrders};
+ghost use Rattle.lists.specs.Search.{placeOf};
+ghost use Rattle.premise.specs.Orders.{held, withOrders};
 ghost use Rattle.premise.specs.WellKept.{Tidy};
 use lists::Found;
 use premise::File;
 use premise::Order;
-
-// Whether an order is open.
-pub fn is_open(o: Order) -> bool
-    ensures { λ r. ⌜ r ≡ isOpen o ⌝ }
-{
-    if o.status < premise::IN_REVIEW {
-        return false;
-    }
-    o.status <= premise::CANCEL_PENDING
-}
 
 // The place of the order with a reference.
 pub fn find(file: File, reference: u32) -> Found
@@ -35,23 +25,6 @@ pub fn find(file: File, reference: u32) -> Found
         place += 1;
     }
     Found::Nothing
-}
-
-// Whether a file has an open order.
-pub fn any_open(file: File) -> bool
-    requires { ⌜ Tidy file ⌝ }
-    ensures { λ r. ⌜ r ≡ anyOf isOpen (held file) ⌝ }
-{
-    let n = file.count;
-    let mut at: usize = 0;
-    while at < n {
-        let o = file.orders[at];
-        if is_open(o) {
-            return true;
-        }
-        at += 1;
-    }
-    false
 }
 
 // The file with the order at a place replaced.

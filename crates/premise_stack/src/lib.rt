@@ -1,4 +1,4 @@
-// The premise layer, inner: a file's stack of orders: whether it is full, and a new order on it.
+// The premise layer, inner: a new order on a file's stack.
 ghost use mathlib.Core.Path.{_≡_};
 ghost use mathlib.Core.List.{[], _∷_, _++_};
 ghost use mathlib.Core.Bool.{false};
@@ -25,27 +25,12 @@ fn first_closed(file: File) -> Found
     let mut oldest: usize = 0;
     while oldest < n {
         let o = file.orders[oldest];
-        if !premise_orders::is_open(o) {
+        if !premise_open::is_open(o) {
             return Found::At(oldest);
         }
         oldest += 1;
     }
     Found::Nothing
-}
-
-// Whether eight open orders are held.
-pub fn is_full(file: File) -> bool
-    requires { ⌜ Tidy file ⌝ }
-    ensures { λ r. ⌜ r ≡ eqb (countOf isOpen (held file)) mostOrders ⌝ }
-{
-    if file.count < premise::MOST_ORDERS {
-        return false;
-    }
-    let closed = first_closed(file);
-    match closed {
-        Found::At(_) => false,
-        Found::Nothing => true,
-    }
 }
 
 // The file with one order more, in the first unused place.

@@ -21,7 +21,7 @@ fn on_retire(file: File, standing: usize) -> Replied
     requires { ⌜ Tidy file ⌝ }
     ensures { λ p. ⌜ AnsweredKinds kindRetire kindRetire (some file) standing p ⌝ }
 {
-    if premise_orders::any_open(file) {
+    if premise_open::any_open(file) {
         return reply(Answer::OrderOpen, file, standing);
     }
     let blank = premise_files::blank_file();

@@ -1,5 +1,5 @@
 // The premise layer, inner: whether a place is unused: a place of a file, those after its orders, a file's place in the book. Every field
-// is looked at, and each function leaves at the first that is not zero.
+// is looked at: nearly always all are zero, so those of a place are tested without a branch.
 ghost use mathlib.Core.Path.{_≡_};
 ghost use Prim.Native.Nat.{_≤_};
 ghost use lib.ListN.{drop};
@@ -13,33 +13,15 @@ use premise::Order;
 pub fn is_blank(o: Order) -> bool
     ensures { λ r. ⌜ r ≡ isBlank o ⌝ }
 {
-    if o.reference != 0 {
-        return false;
-    }
-    if o.kind != 0 {
-        return false;
-    }
-    if o.retailer != 0 {
-        return false;
-    }
-    if o.requested != 0 {
-        return false;
-    }
-    if o.scheduled != 0 {
-        return false;
-    }
-    if o.status != 0 {
-        return false;
-    }
-    let waited = o.waited;
-    if waited.0 != 0 {
-        return false;
-    }
-    let pending = o.pending;
-    if pending.0 != 0 {
-        return false;
-    }
-    o.told == 0
+    (o.reference == 0)
+        & (o.kind == 0)
+        & (o.retailer == 0)
+        & (o.requested == 0)
+        & (o.scheduled == 0)
+        & (o.status == 0)
+        & (o.waited.0 == 0)
+        & (o.pending.0 == 0)
+        & (o.told == 0)
 }
 
 // Whether the places after the orders are unused.
@@ -62,16 +44,7 @@ pub fn rest_blank(file: File) -> bool
 pub fn file_blank(file: File) -> bool
     ensures { λ r. ⌜ r ≡ fileBlank file ⌝ }
 {
-    if file.premise != 0 {
-        return false;
-    }
-    if file.retailer != 0 {
-        return false;
-    }
-    if file.since != 0 {
-        return false;
-    }
-    if file.count != 0 {
+    if !((file.premise == 0) & (file.retailer == 0) & (file.since == 0) & (file.count == 0)) {
         return false;
     }
     rest_blank(file)

@@ -11,22 +11,18 @@ use Rattle.premise_kept.proofs.file_kept.Statement.{statement}
 use Rattle.premise_kept.proofs.file_kept.Tie as tie
 use Rattle.premise_kept.proofs.file_kept.Reads as reads
 use Rattle.premise_kept.proofs.file_kept.Lts as lts
-use Rattle.premise_kept.proofs.head_kept.Reads as head-kept-reads
 use Rattle.premise_kept.proofs.orders_kept.Reads as orders-kept-reads
 use Rattle.premise_kept.proofs.references_distinct.Reads as references-distinct-reads
 use Rattle.premise_unused.proofs.rest_blank.Reads as rest-blank-reads
 
-eight : (s : lts.Start (head-kept-reads.Asked, head-kept-reads.Learnt, orders-kept-reads.Asked, orders-kept-reads.Learnt, references-distinct-reads.Asked, references-distinct-reads.Learnt, rest-blank-reads.Asked, rest-blank-reads.Learnt) reads.Pre reads.Post) → length (s .args .file .orders) ≡ mostOrders
+eight : (s : lts.Start (orders-kept-reads.Asked, orders-kept-reads.Learnt, references-distinct-reads.Asked, references-distinct-reads.Learnt, rest-blank-reads.Asked, rest-blank-reads.Learnt) reads.Pre reads.Post) → length (s .args .file .orders) ≡ mostOrders
 eight s = search unmapped
 
-head-kept-requires : tie.Need-head-kept-requires
-head-kept-requires c κs = search needs
-
 returns : tie.Need-returns
-returns c = sym (kept-no-head _ (sym (c .before .head-kept .ensures) ∙ not-true _ (c .if1 .taken)))
+returns c = kept-no-head (c .before .before .before .before .before .args .file) (c .if1 .taken)
 
 orders-kept-requires : tie.Need-orders-kept-requires
-orders-kept-requires c κs = head-few (c .before .before .args .file) (sym (c .before .head-kept .ensures) ∙ not-false _ (c .if1 .left))
+orders-kept-requires c κs = head-few (c .before .before .before .before .before .args .file) (c .if1 .left)
 
 returns-2 : tie.Need-returns-2
 returns-2 c = sym (kept-no-orders _ (sym (c .before .orders-kept .ensures) ∙ not-true _ (c .if2 .taken)))
@@ -34,7 +30,7 @@ returns-2 c = sym (kept-no-orders _ (sym (c .before .orders-kept .ensures) ∙ n
 references-distinct-requires : tie.Need-references-distinct-requires
 references-distinct-requires c κs =
     let h = c .before .before in
-    head-few (h .before .before .args .file) (sym (h .before .head-kept .ensures) ∙ not-false _ (h .if1 .left))
+    head-few (h .before .before .before .before .before .args .file) (h .if1 .left)
 
 returns-3 : tie.Need-returns-3
 returns-3 c = sym (kept-no-references _ (sym (c .before .references-distinct .ensures) ∙ not-true _ (c .if3 .taken)))
@@ -42,21 +38,20 @@ returns-3 c = sym (kept-no-references _ (sym (c .before .references-distinct .en
 rest-blank-requires : tie.Need-rest-blank-requires
 rest-blank-requires c κs =
     let h = c .before .before .before .before in
-    head-few (h .before .before .args .file) (sym (h .before .head-kept .ensures) ∙ not-false _ (h .if1 .left))
+    head-few (h .before .before .before .before .before .args .file) (h .if1 .left)
 
 returns-4 : tie.Need-returns-4
 returns-4 c =
     let d = c .before in
     let o = d .before .before in
     let h = o .before .before in
-    let s = h .before .before in
-    c .rest-blank .ensures ∙ sym (kept-rest (s .args .file) (eight s) (sym (h .before .head-kept .ensures) ∙ not-false _ (h .if1 .left)) (sym (o .before .orders-kept .ensures) ∙ not-false _ (o .if2 .left)) (sym (d .before .references-distinct .ensures) ∙ not-false _ (d .if3 .left)))
+    let s = h .before .before .before .before .before in
+    c .rest-blank .ensures ∙ sym (kept-rest (s .args .file) (eight s) (h .if1 .left) (sym (o .before .orders-kept .ensures) ∙ not-false _ (o .if2 .left)) (sym (d .before .references-distinct .ensures) ∙ not-false _ (d .if3 .left)))
 
 pub file-kept-spec : {M : Type 1} → statement M
 file-kept-spec =
     tie.close
     (tie.spec
-    head-kept-requires
     returns
     orders-kept-requires
     returns-2

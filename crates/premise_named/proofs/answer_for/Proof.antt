@@ -13,15 +13,11 @@ mul-o c = search needs
 element-copy-out-o : tie.Need-element-copy-out-o
 element-copy-out-o c = search needs
 
-is-foreign-requires : tie.Need-is-foreign-requires
-is-foreign-requires c κs = search needs
-
 returns : tie.Need-returns
 returns c =
-    let x = c .before in
-    let s = x .before .before in
+    let s = c .before .before .before .before .before in
     let a = s .args in
-    answer-foreign (a .r) _ _ (at-held (a .t1) (a .i) (s .pre .1)) (sym (x .is-foreign .ensures) ∙ c .if1 .taken)
+    answer-foreign (a .r) _ _ (at-held (a .t1) (a .i) (s .pre .1)) (c .if1 .taken)
 
 is-taken-requires : tie.Need-is-taken-requires
 is-taken-requires c κs = search needs
@@ -30,30 +26,18 @@ returns-2 : tie.Need-returns-2
 returns-2 c =
     let t = c .before in
     let k1 = t .before in
-    let x = k1 .before in
-    let s = x .before .before in
+    let s = k1 .before .before .before .before .before in
     let a = s .args in
-    answer-untaken (a .r) _ _ (at-held (a .t1) (a .i) (s .pre .1)) (sym (x .is-foreign .ensures) ∙ k1 .if1 .left)
-    (sym (t .is-taken .ensures) ∙ not-true _ (c .if2 .taken))
+    answer-untaken (a .r) _ _ (at-held (a .t1) (a .i) (s .pre .1)) (k1 .if1 .left) (sym (t .is-taken .ensures) ∙ not-true _ (c .if2 .taken))
 
 returns-3 : tie.Need-returns-3
 returns-3 c =
     let t = c .before in
     let k1 = t .before in
-    let x = k1 .before in
-    let s = x .before .before in
+    let s = k1 .before .before .before .before .before in
     let a = s .args in
-    answer-accepted (a .r) _ _ (at-held (a .t1) (a .i) (s .pre .1)) (sym (x .is-foreign .ensures) ∙ k1 .if1 .left)
-    (sym (t .is-taken .ensures) ∙ not-false _ (c .if2 .left))
+    answer-accepted (a .r) _ _ (at-held (a .t1) (a .i) (s .pre .1)) (k1 .if1 .left) (sym (t .is-taken .ensures) ∙ not-false _ (c .if2 .left))
 
 pub answer-for-spec : {M : Type 1} → statement M
 answer-for-spec =
-    tie.close
-    (tie.spec
-    mul-o
-    element-copy-out-o
-    is-foreign-requires
-    returns
-    is-taken-requires
-    returns-2
-    returns-3)
+    tie.close (tie.spec mul-o element-copy-out-o returns is-taken-requires returns-2 returns-3)

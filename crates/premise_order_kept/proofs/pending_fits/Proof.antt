@@ -4,10 +4,10 @@ use Rattle.premise_order_kept.proofs.pending_fits.Statement.{statement}
 use Rattle.premise_order_kept.proofs.pending_fits.Tie as tie
 
 returns : tie.Need-returns
-returns c = pending-counted (c .before .before .before .before .args .o) (c .before .if1 .taken)
+returns c = pending-counted (c .before .args .o) (c .if1 .taken)
 
 returns-2 : tie.Need-returns-2
-returns-2 c = pending-other (c .before .before .before .before .args .o) (c .before .if1 .left)
+returns-2 c = pending-other (c .before .args .o) (c .if1 .left)
 
 pub pending-fits-spec : {M : Type 1} → statement M
 pending-fits-spec = tie.close (tie.spec returns returns-2)

@@ -33,19 +33,15 @@ returns-2 c =
     let a = w .before .args in
     answer-far (a .today) (held (a .file)) (a .r) (a .requested) (sym (w .find .ensures) ∙ n .enum-told2 .given .1) (sym (t .is-too-far .ensures) ∙ c .if1 .taken)
 
-has-no-date-requires : tie.Need-has-no-date-requires
-has-no-date-requires c κs = search needs
-
 returns-3 : tie.Need-returns-3
 returns-3 c =
-    let d = c .before in
-    let k1 = d .before in
+    let k1 = c .before in
     let t = k1 .before in
     let n = t .before in
     let w = n .before .before in
     let a = w .before .args in
     answer-dateless (a .today) (held (a .file)) (a .r) (a .requested) (sym (w .find .ensures) ∙ n .enum-told2 .given .1) (sym (t .is-too-far .ensures) ∙ k1 .if1 .left)
-    (sym (d .has-no-date .ensures) ∙ c .if2 .taken)
+    (c .if2 .taken)
 
 not-first-in-requires : tie.Need-not-first-in-requires
 not-first-in-requires c κs = search needs
@@ -54,14 +50,13 @@ returns-4 : tie.Need-returns-4
 returns-4 c =
     let v = c .before in
     let k2 = v .before in
-    let d = k2 .before in
-    let k1 = d .before in
+    let k1 = k2 .before in
     let t = k1 .before in
     let n = t .before in
     let w = n .before .before in
     let a = w .before .args in
     answer-late (a .today) (held (a .file)) (a .r) (a .requested) (sym (w .find .ensures) ∙ n .enum-told2 .given .1) (sym (t .is-too-far .ensures) ∙ k1 .if1 .left)
-    (sym (d .has-no-date .ensures) ∙ k2 .if2 .left)
+    (k2 .if2 .left)
     (sym (v .not-first-in .ensures) ∙ c .if3 .taken)
 
 is-full-requires : tie.Need-is-full-requires
@@ -73,14 +68,13 @@ returns-5 c =
     let k3 = x .before in
     let v = k3 .before in
     let k2 = v .before in
-    let d = k2 .before in
-    let k1 = d .before in
+    let k1 = k2 .before in
     let t = k1 .before in
     let n = t .before in
     let w = n .before .before in
     let a = w .before .args in
     answer-full (a .today) (held (a .file)) (a .r) (a .requested) (sym (w .find .ensures) ∙ n .enum-told2 .given .1) (sym (t .is-too-far .ensures) ∙ k1 .if1 .left)
-    (sym (d .has-no-date .ensures) ∙ k2 .if2 .left)
+    (k2 .if2 .left)
     (sym (v .not-first-in .ensures) ∙ k3 .if3 .left)
     (sym (x .is-full .ensures) ∙ c .if4 .taken)
 
@@ -90,14 +84,13 @@ returns-6 c =
     let k3 = x .before in
     let v = k3 .before in
     let k2 = v .before in
-    let d = k2 .before in
-    let k1 = d .before in
+    let k1 = k2 .before in
     let t = k1 .before in
     let n = t .before in
     let w = n .before .before in
     let a = w .before .args in
     answer-accepted (a .today) (held (a .file)) (a .r) (a .requested) (sym (w .find .ensures) ∙ n .enum-told2 .given .1) (sym (t .is-too-far .ensures) ∙ k1 .if1 .left)
-    (sym (d .has-no-date .ensures) ∙ k2 .if2 .left)
+    (k2 .if2 .left)
     (sym (v .not-first-in .ensures) ∙ k3 .if3 .left)
     (sym (x .is-full .ensures) ∙ c .if4 .left)
 
@@ -111,7 +104,6 @@ answer-for-spec =
     enum-told-2
     is-too-far-requires
     returns-2
-    has-no-date-requires
     returns-3
     not-first-in-requires
     returns-4

@@ -1,124 +1,91 @@
--- `premise_records::change_order` meets its contract: the arm of the record's kind picks the case of `onOrder`. Assumes nothing.
-use mathlib.Core.Path.{sym, ap, _∙_}
+-- `premise_records::change_order` meets its contract: a read gives no notice, another record one, and a second where the premise's retailer
+-- hears of it too. Assumes nothing.
 use borrow.Author.Needs.{needs}
-use Rattle.premise.specs.Passes.{same}
-use Rattle.premise_changes.proofs.Done.{room-case, done-case, done-none}
-use Rattle.premise_records.proofs.Cases.{on-scheduled, on-permit, on-unexecutable, on-read, on-cancel, on-reply}
+use Rattle.premise_changes.proofs.Done.{done-case, done-none}
+use Rattle.premise_records.proofs.Cases.{on-read, told-once, told-twice, first-room, second-room, done-both}
 use Rattle.premise_records.proofs.change_order.Statement.{statement}
 use Rattle.premise_records.proofs.change_order.Tie as tie
 
-scheduled-requires : tie.Need-scheduled-requires
-scheduled-requires c κs =
-    let m = c .before in
-    let s = m .before .before in
-    let a = s .args in
-    room-case _ (a .standing) (a .buffer .now) _ (on-scheduled (a .file) (a .r) (a .o) (m .match .keys1)) (s .pre)
+left-requires : tie.Need-left-requires
+left-requires c κs = search needs
 
-permit-requires : tie.Need-permit-requires
-permit-requires c κs =
-    let m = c .before in
-    let s = m .before .before in
-    let a = s .args in
-    room-case _ (a .standing) (a .buffer .now) _ (on-permit (a .file) (a .r) (a .o) (m .match .keys2)) (s .pre)
+returns : tie.Need-returns
+returns c =
+    let l = c .before in
+    let a = l .before .before .args in
+    done-none _ (a .standing) (a .buffer .now) (l .left .result) (on-read (a .file) (a .r) (a .o) (c .if1 .taken) (l .left .result) (l .left .ensures))
 
-unexecutable-requires : tie.Need-unexecutable-requires
-unexecutable-requires c κs =
-    let m = c .before in
-    let s = m .before .before in
-    let a = s .args in
-    room-case _ (a .standing) (a .buffer .now) _ (on-unexecutable (a .file) (a .r) (a .o) (m .match .keys3)) (s .pre)
+code-of-requires : tie.Need-code-of-requires
+code-of-requires c κs = search needs
 
-read-requires : tie.Need-read-requires
-read-requires c κs = search needs
+addressee-of-requires : tie.Need-addressee-of-requires
+addressee-of-requires c κs = search needs
 
-cancel-requires : tie.Need-cancel-requires
-cancel-requires c κs =
-    let m = c .before in
-    let s = m .before .before in
+tell-requires : tie.Need-tell-requires
+tell-requires c κs =
+    let g = c .before in
+    let k = g .before in
+    let e = k .before in
+    let l = e .before in
+    let s = l .before .before in
     let a = s .args in
-    room-case _ (a .standing) (a .buffer .now) _ (on-cancel (a .file) (a .r) (a .o) (m .match .keys5)) (s .pre)
-
-reply-requires : tie.Need-reply-requires
-reply-requires c κs =
-    let m = c .before in
-    let s = m .before .before in
-    let a = s .args in
-    room-case _ (a .standing) (a .buffer .now) _ (on-reply (a .file) (a .r) (a .o) (m .match .rest .0 .0 .0 .0 .1) (m .match .rest .0 .0 .0 .1) (m .match .rest .0 .0 .1) (m .match .rest .0 .1) (m .match .rest .1)) (s .pre)
+    first-room (a .file) (a .r) (a .o) (e .if1 .left) (l .left .result) (l .left .ensures) (k .code-of .result) (k .code-of .ensures) (g .addressee-of .result) (g .addressee-of .ensures) (a .standing) (a .buffer .now) (s .pre)
 
 same-length : tie.Need-same-length
 same-length c = search needs
 
-returns : tie.Need-returns
-returns c =
-    let w = c .before .before in
-    let m = w .before .before in
-    let a = m .before .before .args in
-    done-case _ (a .standing) (a .buffer .now) _ (on-scheduled (a .file) (a .r) (a .o) (m .match .keys1)) (w .scheduled .result) _ (w .scheduled .ensures)
+returns-2 : tie.Need-returns-2
+returns-2 c =
+    let w = c .before .before .before .before .before in
+    let g = w .before .before in
+    let k = g .before in
+    let e = k .before in
+    let l = e .before in
+    let a = l .before .before .args in
+    let once = told-once (a .file) (a .r) (a .o) (e .if1 .left) (l .left .result) (l .left .ensures) (k .code-of .result) (k .code-of .ensures) (g .addressee-of .result) (g .addressee-of .ensures) (c .if2 .taken) in
+    done-case _ (a .standing) (a .buffer .now) _ once (w .tell .result) _ (w .tell .ensures)
+
+tell-requires-2 : tie.Need-tell-requires-2
+tell-requires-2 c κs =
+    let h = c .before in
+    let w = h .before .before .before .before .before in
+    let g = w .before .before in
+    let k = g .before in
+    let e = k .before in
+    let l = e .before in
+    let s = l .before .before in
+    let a = s .args in
+    let twice = told-twice (a .file) (a .r) (a .o) (e .if1 .left) (l .left .result) (l .left .ensures) (k .code-of .result) (k .code-of .ensures) (g .addressee-of .result) (g .addressee-of .ensures) (h .if2 .left) in
+    second-room _ _ _ _ _ (l .left .result) (a .standing) (a .buffer .now) twice (s .pre) (w .tell .result) _ (w .tell .ensures)
 
 same-length-2 : tie.Need-same-length-2
 same-length-2 c = search needs
 
-returns-2 : tie.Need-returns-2
-returns-2 c =
-    let w = c .before .before in
-    let m = w .before .before in
-    let a = m .before .before .args in
-    done-case _ (a .standing) (a .buffer .now) _ (on-permit (a .file) (a .r) (a .o) (m .match .keys2)) (w .permit .result) _ (w .permit .ensures)
-
-same-length-3 : tie.Need-same-length-3
-same-length-3 c = search needs
-
 returns-3 : tie.Need-returns-3
 returns-3 c =
-    let w = c .before .before in
-    let m = w .before .before in
-    let a = m .before .before .args in
-    done-case _ (a .standing) (a .buffer .now) _ (on-unexecutable (a .file) (a .r) (a .o) (m .match .keys3)) (w .unexecutable .result) _ (w .unexecutable .ensures)
-
-returns-4 : tie.Need-returns-4
-returns-4 c =
-    let m = c .before in
-    let a = m .before .before .args in
-    done-none _ (a .standing) (a .buffer .now) (c .read .result) (on-read (a .file) (a .r) (a .o) (m .match .keys4) ∙ ap same (sym (c .read .ensures)))
-
-same-length-4 : tie.Need-same-length-4
-same-length-4 c = search needs
-
-returns-5 : tie.Need-returns-5
-returns-5 c =
-    let w = c .before .before in
-    let m = w .before .before in
-    let a = m .before .before .args in
-    done-case _ (a .standing) (a .buffer .now) _ (on-cancel (a .file) (a .r) (a .o) (m .match .keys5)) (w .cancel .result) _ (w .cancel .ensures)
-
-same-length-5 : tie.Need-same-length-5
-same-length-5 c = search needs
-
-returns-6 : tie.Need-returns-6
-returns-6 c =
-    let w = c .before .before in
-    let m = w .before .before in
-    let a = m .before .before .args in
-    done-case _ (a .standing) (a .buffer .now) _ (on-reply (a .file) (a .r) (a .o) (m .match .rest .0 .0 .0 .0 .1) (m .match .rest .0 .0 .0 .1) (m .match .rest .0 .0 .1) (m .match .rest .0 .1) (m .match .rest .1)) (w .reply .result) _ (w .reply .ensures)
+    let v = c .before .before in
+    let h = v .before .before in
+    let w = h .before .before .before .before .before in
+    let g = w .before .before in
+    let k = g .before in
+    let e = k .before in
+    let l = e .before in
+    let s = l .before .before in
+    let a = s .args in
+    let twice = told-twice (a .file) (a .r) (a .o) (e .if1 .left) (l .left .result) (l .left .ensures) (k .code-of .result) (k .code-of .ensures) (g .addressee-of .result) (g .addressee-of .ensures) (h .if2 .left) in
+    done-both _ _ _ _ _ (l .left .result) (a .standing) (a .buffer .now) twice (s .pre) (w .tell .result) _ (w .tell .ensures) (v .tell2 .result) _ (v .tell2 .ensures)
 
 pub change-order-spec : {M : Type 1} → statement M
 change-order-spec =
     tie.close
     (tie.spec
-    scheduled-requires
-    permit-requires
-    unexecutable-requires
-    read-requires
-    cancel-requires
-    reply-requires
-    same-length
+    left-requires
     returns
-    same-length-2
+    code-of-requires
+    addressee-of-requires
+    tell-requires
+    same-length
     returns-2
-    same-length-3
-    returns-3
-    returns-4
-    same-length-4
-    returns-5
-    same-length-5
-    returns-6)
+    tell-requires-2
+    same-length-2
+    returns-3)

@@ -8,7 +8,8 @@ use borrow.Author.Needs.{needs}
 use Rattle.premise.specs.declared.Order.{Order}
 use Rattle.premise.specs.Orders.{isClosed, withOrders}
 use Rattle.premise_orders.proofs.Files.{place-held}
-use Rattle.premise_stack.proofs.Room.{open-full, room-free, room-full}
+use Rattle.premise_full.proofs.Eight.{open-full}
+use Rattle.premise_stack.proofs.Room.{room-free, room-full}
 use Rattle.premise_stack.proofs.admit.Statement.{statement}
 use Rattle.premise_stack.proofs.admit.Tie as tie
 

@@ -1,67 +1,18 @@
-// The premise layer, inner: pass 3 of the evaluation on one order. A move in that awaits its permit is overtaken by another move in.
-ghost use mathlib.Core.Path.{_≡_};
-ghost use Rattle.lists.specs.Search.{anyOf};
+// The premise layer, inner: pass 3 of the evaluation on one order. An overtaken move in is cancelled.
 ghost use Rattle.premise.specs.Orders.{held};
-ghost use Rattle.premise.specs.Evaluation.{overtakes, overtaken, lapsed};
+ghost use Rattle.premise.specs.Evaluation.{lapsed};
 ghost use Rattle.premise.specs.WellKept.{Tidy};
 ghost use Rattle.premise.specs.Promises.{Room, DoneToOrder};
 use premise::File;
 use premise::Order;
 use premise::Stepped;
 
-// Whether an order is a Scheduled move in whose day has come, requested for after another day.
-fn is_overtaking(today: u16, requested: u16, o: Order) -> bool
-    ensures { λ r. ⌜ r ≡ overtakes today requested o ⌝ }
-{
-    if o.kind != records::order_kind::MOVE_IN {
-        return false;
-    }
-    if o.status != premise::SCHEDULED {
-        return false;
-    }
-    if today < o.scheduled {
-        return false;
-    }
-    requested < o.requested
-}
-
-// Whether a file has such a move in.
-fn any_overtakes(today: u16, file: File, requested: u16) -> bool
-    requires { ⌜ Tidy file ⌝ }
-    ensures { λ r. ⌜ r ≡ anyOf (overtakes today requested) (held file) ⌝ }
-{
-    let n = file.count;
-    let mut i: usize = 0;
-    while i < n {
-        let o = file.orders[i];
-        if is_overtaking(today, requested, o) {
-            return true;
-        }
-        i += 1;
-    }
-    false
-}
-
-// Whether an order is a Permit Pending move in that another overtook.
-pub fn is_overtaken(today: u16, file: File, o: Order) -> bool
-    requires { ⌜ Tidy file ⌝ }
-    ensures { λ r. ⌜ r ≡ overtaken today (held file) o ⌝ }
-{
-    if o.kind != records::order_kind::MOVE_IN {
-        return false;
-    }
-    if o.status != premise::PERMIT_PENDING {
-        return false;
-    }
-    any_overtakes(today, file, o.requested)
-}
-
 // Pass 3 on an order of a file.
 pub fn lapse(today: u16, file: File, o: Order, standing: usize, buffer: &mut [u8]) -> Stepped
     requires { ⌜ Tidy file × Room standing (lapsed today (file .premise) (held file) o .notices) (now buffer) ⌝ }
     ensures { λ r. ⌜ DoneToOrder (lapsed today (file .premise) (held file) o) standing r (now (buffer .entry)) (now (buffer .exit)) ⌝ }
 {
-    if is_overtaken(today, file, o) {
+    if premise_overtaken::is_overtaken(today, file, o) {
         return premise_changes::cancel(file.premise, o.retailer, o, standing, buffer);
     }
     Stepped {

@@ -10,31 +10,20 @@ use premise::Order;
 pub fn is_switch(o: Order) -> bool
     ensures { λ r. ⌜ r ≡ isSwitch o ⌝ }
 {
-    if o.kind == records::order_kind::STANDARD_SWITCH {
-        return true;
-    }
-    o.kind == records::order_kind::SELF_SELECTED_SWITCH
+    (o.kind == records::order_kind::STANDARD_SWITCH)
+        | (o.kind == records::order_kind::SELF_SELECTED_SWITCH)
 }
 
 // Whether an order is Scheduled or Cancel Pending.
 pub fn is_standing(o: Order) -> bool
     ensures { λ r. ⌜ r ≡ isStanding o ⌝ }
 {
-    if o.status == premise::SCHEDULED {
-        return true;
-    }
-    o.status == premise::CANCEL_PENDING
+    (o.status == premise::SCHEDULED) | (o.status == premise::CANCEL_PENDING)
 }
 
 // Whether an order is one of the switches in window of which one a day is kept.
 pub fn is_contender(last: u16, o: Order) -> bool
     ensures { λ r. ⌜ r ≡ contends (upTo last) o ⌝ }
 {
-    if !is_switch(o) {
-        return false;
-    }
-    if !is_standing(o) {
-        return false;
-    }
-    o.scheduled <= last
+    is_switch(o) & is_standing(o) & (o.scheduled <= last)
 }

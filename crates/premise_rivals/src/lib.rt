@@ -10,20 +10,13 @@ use lists::Found;
 use premise::File;
 use premise::Order;
 
-// Whether an order is a switch that contends for a day; with `only`, a Scheduled one. Most orders are of another day.
+// Whether an order is a switch that contends for a day; with `only`, a Scheduled one.
 fn is_rival(last: u16, day: u16, only: bool, o: Order) -> bool
     ensures { λ r. ⌜ r ≡ rival (upTo last) day only o ⌝ }
 {
-    if o.scheduled != day {
-        return false;
-    }
-    if !premise_order_tests::is_contender(last, o) {
-        return false;
-    }
-    if only {
-        return o.status == premise::SCHEDULED;
-    }
-    true
+    premise_order_tests::is_contender(last, o)
+        & (o.scheduled == day)
+        & (!only | (o.status == premise::SCHEDULED))
 }
 
 // The place of the oldest such switch of a file.

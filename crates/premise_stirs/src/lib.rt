@@ -10,13 +10,8 @@ use premise::Order;
 pub fn may_stir(last: u16, o: Order) -> bool
     ensures { λ r. ⌜ r ≡ mayStir last o ⌝ }
 {
-    if o.status == premise::PERMIT_PENDING {
-        return true;
-    }
-    if !premise_order_tests::is_standing(o) {
-        return false;
-    }
-    o.scheduled <= last
+    (o.status == premise::PERMIT_PENDING)
+        | (premise_order_tests::is_standing(o) & (o.scheduled <= last))
 }
 
 // Whether the evaluation changes the order at a place of a file. The order's status and kind say which pass can: a test that takes the file
@@ -26,16 +21,16 @@ pub fn is_stirring(today: u16, last: u16, file: File, i: usize, o: Order) -> boo
     ensures { λ r. ⌜ r ≡ stirs today last (held file) i o ⌝ }
 {
     if o.status == premise::PERMIT_PENDING {
-        return premise_lapse::is_overtaken(today, file, o);
+        return premise_overtaken::is_overtaken(today, file, o);
     }
-    if premise_tell::is_due(last, o) {
+    if premise_due::is_due(last, o) {
         return true;
     }
     if premise_order_tests::is_switch(o) {
-        return premise_settle::gives_way(last, file, i, o);
+        return premise_gives_way::gives_way(last, file, i, o);
     }
     if o.kind != records::order_kind::MASS_TRANSITION_DROP {
         return false;
     }
-    premise_displace::is_displaced(last, file, o)
+    premise_displaced::is_displaced(last, file, o)
 }

@@ -6,8 +6,8 @@ use borrow.Author.Needs.{needs}
 use Rattle.days.specs.Window.{upTo}
 use Rattle.premise.specs.Orders.{held}
 use Rattle.premise.specs.Evaluation.{givesWay, displaced}
-use Rattle.premise_displace.proofs.Cases.{displaced-other}
 use Rattle.premise_stirs.specs.Stirs.{stirs}
+use Rattle.premise_stirs.proofs.Cases.{displaced-other}
 use Rattle.premise_stirs.proofs.Stirs.{stirs-due, stirs-permit, stirs-switch, stirs-other}
 use Rattle.premise_stirs.proofs.is_stirring.Statement.{statement}
 use Rattle.premise_stirs.proofs.is_stirring.Tie as tie

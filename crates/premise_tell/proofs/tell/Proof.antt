@@ -8,7 +8,7 @@ use Rattle.records.specs.declared.Notice.{Notice}
 use Rattle.premise.specs.Orders.{withTold}
 use Rattle.premise.specs.Passes.{Change}
 use Rattle.premise.specs.Evaluation.{told}
-use Rattle.premise_tell.proofs.Cases.{tell-same, tell-nobody, tell-own, tell-one}
+use Rattle.premise_tell.proofs.Cases.{tell-same, tell-none, tell-one}
 use Rattle.premise_changes.proofs.Done.{room-case, done-none, done-one}
 use Rattle.premise_tell.proofs.tell.Statement.{statement}
 use Rattle.premise_tell.proofs.tell.Tie as tie
@@ -24,41 +24,35 @@ returns c =
 
 returns-2 : tie.Need-returns-2
 returns-2 c =
-    let w = c .before .before in
+    let w = c .before .before .before in
     let a = w .before .before .args in
-    done-none _ (a .standing) (a .buffer .now) (withTold 1 (a .o)) (tell-nobody (upTo (a .last)) (a .o) (a .premise) (a .retailer) (sym (w .is-due .ensures) ∙ not-false _ (c .before .if1 .left)) (c .if2 .taken))
-
-returns-3 : tie.Need-returns-3
-returns-3 c =
-    let w = c .before .before .before .before in
-    let a = w .before .before .args in
-    done-none _ (a .standing) (a .buffer .now) (withTold 1 (a .o)) (tell-own (upTo (a .last)) (a .o) (a .premise) (a .retailer) (sym (w .is-due .ensures) ∙ not-false _ (c .before .before .before .if1 .left)) (c .before .before .if2 .left) (c .if3 .taken))
+    done-none _ (a .standing) (a .buffer .now) (withTold 1 (a .o)) (tell-none (upTo (a .last)) (a .o) (a .premise) (a .retailer) (sym (w .is-due .ensures) ∙ not-false _ (c .before .before .if1 .left)) (c .if2 .taken))
 
 notice-on-requires : tie.Need-notice-on-requires
 notice-on-requires c κs = search needs
 
 -- one notice, as `notice_on` made it
-one : (m : tie.After-notice-on) → let a = m .before .before .before .before .before .before .before .args in
+one : (m : tie.After-notice-on) → let a = m .before .before .before .before .before .before .args in
     told (upTo (a .last)) (a .premise) (a .retailer) (a .o) ≡ record { order = withTold 1 (a .o); notices = m .notice-on .result ∷ [] }
 one m =
-    let w = m .before .before .before .before .before in
+    let w = m .before .before .before .before in
     let a = w .before .before .args in
-    tell-one (upTo (a .last)) (a .o) (a .premise) (a .retailer) (sym (w .is-due .ensures) ∙ not-false _ (m .before .before .before .before .if1 .left)) (m .before .before .before .if2 .left) (m .before .if3 .left)
+    tell-one (upTo (a .last)) (a .o) (a .premise) (a .retailer) (sym (w .is-due .ensures) ∙ not-false _ (m .before .before .before .if1 .left)) (m .before .if2 .left)
     ∙ ap {B = Change} (λ (n : Notice). record { order = withTold 1 (a .o); notices = n ∷ [] }) (sym (m .notice-on .ensures))
 
 send-requires : tie.Need-send-requires
 send-requires c κs =
-    let s = c .before .before .before .before .before .before .before .before in
+    let s = c .before .before .before .before .before .before .before in
     room-case _ (s .args .standing) (s .args .buffer .now) _ (one (c .before)) (s .pre)
 
 same-length : tie.Need-same-length
 same-length c = search needs
 
-returns-4 : tie.Need-returns-4
-returns-4 c =
+returns-3 : tie.Need-returns-3
+returns-3 c =
     let k = c .before .before in
     let m = k .before .before in
-    let a = m .before .before .before .before .before .before .before .args in
+    let a = m .before .before .before .before .before .before .args in
     done-one _ (a .standing) (a .buffer .now) _ _ _ (k .send .result) (one m) (k .send .ensures)
 
 pub tell-spec : {M : Type 1} → statement M
@@ -68,8 +62,7 @@ tell-spec =
     is-due-requires
     returns
     returns-2
-    returns-3
     notice-on-requires
     send-requires
     same-length
-    returns-4)
+    returns-3)

@@ -1,0 +1,46 @@
+// The premise layer, inner: whether a drop is displaced by a switch of its day. Pass 2 of the evaluation goes by it.
+ghost use mathlib.Core.Path.{_≡_};
+ghost use Rattle.lists.specs.Search.{anyOf};
+ghost use Rattle.days.specs.Window.{upTo};
+ghost use Rattle.premise.specs.Orders.{held};
+ghost use Rattle.premise.specs.Evaluation.{switchOn, displaced};
+ghost use Rattle.premise.specs.WellKept.{Tidy};
+use premise::File;
+use premise::Order;
+
+// Whether an order is a Scheduled switch for a day.
+fn is_switch_on(day: u16, o: Order) -> bool
+    ensures { λ r. ⌜ r ≡ switchOn day o ⌝ }
+{
+    premise_order_tests::is_switch(o) & (o.status == premise::SCHEDULED) & (o.scheduled == day)
+}
+
+// Whether a file has a Scheduled switch for a day.
+fn any_switch_on(file: File, day: u16) -> bool
+    requires { ⌜ Tidy file ⌝ }
+    ensures { λ r. ⌜ r ≡ anyOf (switchOn day) (held file) ⌝ }
+{
+    let n = file.count;
+    let mut i: usize = 0;
+    while i < n {
+        let o = file.orders[i];
+        if is_switch_on(day, o) {
+            return true;
+        }
+        i += 1;
+    }
+    false
+}
+
+// Whether an order is a drop that a switch displaces.
+pub fn is_displaced(last: u16, file: File, o: Order) -> bool
+    requires { ⌜ Tidy file ⌝ }
+    ensures { λ r. ⌜ r ≡ displaced (upTo last) (held file) o ⌝ }
+{
+    if !((o.kind == records::order_kind::MASS_TRANSITION_DROP)
+        & (o.status == premise::SCHEDULED)
+        & (o.scheduled <= last)) {
+        return false;
+    }
+    any_switch_on(file, o.scheduled)
+}

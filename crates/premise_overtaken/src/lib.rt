@@ -1,0 +1,46 @@
+// The premise layer, inner: whether a move in that awaits its permit is overtaken by another move in. Pass 3 of the evaluation goes by it.
+ghost use mathlib.Core.Path.{_≡_};
+ghost use Rattle.lists.specs.Search.{anyOf};
+ghost use Rattle.premise.specs.Orders.{held};
+ghost use Rattle.premise.specs.Evaluation.{overtakes, overtaken};
+ghost use Rattle.premise.specs.WellKept.{Tidy};
+use premise::File;
+use premise::Order;
+
+// Whether an order is a Scheduled move in whose day has come, requested for after another day.
+fn is_overtaking(today: u16, requested: u16, o: Order) -> bool
+    ensures { λ r. ⌜ r ≡ overtakes today requested o ⌝ }
+{
+    (o.kind == records::order_kind::MOVE_IN)
+        & (o.status == premise::SCHEDULED)
+        & (o.scheduled <= today)
+        & (requested < o.requested)
+}
+
+// Whether a file has such a move in.
+fn any_overtakes(today: u16, file: File, requested: u16) -> bool
+    requires { ⌜ Tidy file ⌝ }
+    ensures { λ r. ⌜ r ≡ anyOf (overtakes today requested) (held file) ⌝ }
+{
+    let n = file.count;
+    let mut i: usize = 0;
+    while i < n {
+        let o = file.orders[i];
+        if is_overtaking(today, requested, o) {
+            return true;
+        }
+        i += 1;
+    }
+    false
+}
+
+// Whether an order is a Permit Pending move in that another overtook.
+pub fn is_overtaken(today: u16, file: File, o: Order) -> bool
+    requires { ⌜ Tidy file ⌝ }
+    ensures { λ r. ⌜ r ≡ overtaken today (held file) o ⌝ }
+{
+    if !((o.kind == records::order_kind::MOVE_IN) & (o.status == premise::PERMIT_PENDING)) {
+        return false;
+    }
+    any_overtakes(today, file, o.requested)
+}

@@ -26,8 +26,8 @@ fn mark(calendar: &[u8], day: u16, b: Book, buffer: &mut [u8]) -> Marked
     requires { ⌜ TidyBook b × Each Tidy (filesOf b) × Room 0 (markedNotices (now calendar) day (filesOf b)) (now buffer) ⌝ }
     ensures { λ r. ⌜ (r .book ≡ bookOf day (markedFiles (now (calendar .entry)) day (filesOf b))) × Writes 0 (now (buffer .entry)) (now (buffer .exit)) (r .sent) (markedNotices (now (calendar .entry)) day (filesOf b)) ⌝ }
 {
-    let business = days::is_business_day(calendar, day);
-    let last = days::last_in_window(calendar, days::WINDOW_WIDTH, day);
+    let business = day_kinds::is_business_day(calendar, day);
+    let last = day_searches::last_in_window(calendar, days::WINDOW_WIDTH, day);
     let n = b.count;
     let mut c = b;
     c.today = day;

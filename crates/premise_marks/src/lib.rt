@@ -15,7 +15,7 @@ fn wind(calendar: &[u8], today: u16, file: File, standing: usize, buffer: &mut [
     requires { ⌜ Tidy file × Room standing (onFile file (clock (now calendar) today (file .premise) (held file)) .notices) (now buffer) ⌝ }
     ensures { λ r. ⌜ DoneToFile (onFile file (clock (now (calendar .entry)) today (file .premise) (held file))) standing r (now (buffer .entry)) (now (buffer .exit)) ⌝ }
 {
-    let business = days::is_business_day(calendar, today);
+    let business = day_kinds::is_business_day(calendar, today);
     let n = file.count;
     let mut out = file;
     let mut sent = standing;

@@ -34,7 +34,7 @@ fn accept_named(
     requires { ⌜ Tidy file × (i < file .count) × Room standing (followed (changed file r i (getD (held file) i blank)) (evaluated (now calendar) today) .notices) (now buffer) ⌝ }
     ensures { λ p. ⌜ DoneToFile (followed (changed file r i (getD (held file) i blank)) (evaluated (now (calendar .entry)) today)) standing p (now (buffer .entry)) (now (buffer .exit)) ⌝ }
 {
-    let last = days::last_in_window(calendar, days::WINDOW_WIDTH, today);
+    let last = day_searches::last_in_window(calendar, days::WINDOW_WIDTH, today);
     let o = file.orders[i];
     let s = premise_records::change_order(file, r, o, standing, buffer);
     let t = s.order;

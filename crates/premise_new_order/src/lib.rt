@@ -12,7 +12,7 @@ pub fn requested_day(calendar: &[u8], today: u16, r: Record) -> u16
     ensures { λ d. ⌜ d ≡ requestedDay (now (calendar .entry)) today r ⌝ }
 {
     if r.detail == records::order_kind::STANDARD_SWITCH {
-        return days::switch_date(calendar, today);
+        return day_searches::switch_date(calendar, today);
     }
     r.day
 }
@@ -23,7 +23,7 @@ pub fn new_order(calendar: &[u8], today: u16, r: Record, requested: u16) -> Orde
     ensures { λ o. ⌜ o ≡ newOrder (now (calendar .entry)) today r ⌝ }
 {
     let mut waited = BusinessDays(0);
-    if days::is_business_day(calendar, today) {
+    if day_kinds::is_business_day(calendar, today) {
         waited = BusinessDays(1);
     }
     Order {

@@ -43,7 +43,7 @@ fn accept_order(
     requires { ⌜ Tidy file × (eqb (countOf isOpen (held file)) mostOrders ≡ false) × (requested ≡ requestedDay (now calendar) today r) × Room standing (followed (ordered (now calendar) today file r) (evaluated (now calendar) today) .notices) (now buffer) ⌝ }
     ensures { λ p. ⌜ DoneToFile (followed (ordered (now (calendar .entry)) today file r) (evaluated (now (calendar .entry)) today)) standing p (now (buffer .entry)) (now (buffer .exit)) ⌝ }
 {
-    let last = days::last_in_window(calendar, days::WINDOW_WIDTH, today);
+    let last = day_searches::last_in_window(calendar, days::WINDOW_WIDTH, today);
     let o = premise_new_order::new_order(calendar, today, r, requested);
     let code = code_for(r.detail);
     let n = premise_notices::notice_on(code, file.premise, records::TDSP, o);

@@ -60,8 +60,8 @@ pub fn play_on(
                 sent = h.sent;
             }
             Look::NextDay(day) => {
-                let business = days::is_business_day(calendar, day);
-                let last = days::last_in_window(calendar, days::WINDOW_WIDTH, day);
+                let business = day_kinds::is_business_day(calendar, day);
+                let last = day_searches::last_in_window(calendar, days::WINDOW_WIDTH, day);
                 b.today = day;
                 let mut place: usize = 0;
                 while place < count {

@@ -1,11 +1,11 @@
--- `days::is_business_day` meets its contract: kind 0, by what `kind_of_day` promises. Assumes nothing.
+-- `day_kinds::is_business_day` meets its contract: kind 0, by what `kind_of_day` promises. Assumes nothing.
 use Prim.Native.Nat.{ℕ}
 use mathlib.Core.Path.{ap}
 use lib.Dec.{eqb}
 use borrow.Author.Needs.{needs}
 use Rattle.days.specs.Days.{isBusinessDay}
-use Rattle.days.proofs.is_business_day.Statement.{statement}
-use Rattle.days.proofs.is_business_day.Tie as tie
+use Rattle.day_kinds.proofs.is_business_day.Statement.{statement}
+use Rattle.day_kinds.proofs.is_business_day.Tie as tie
 
 kind-of-day-requires : tie.Need-kind-of-day-requires
 kind-of-day-requires c κs = search needs

@@ -1,13 +1,13 @@
--- `days::last_in_window` meets its contract. The measure is the days left. Assumes nothing.
+-- `day_searches::last_in_window` meets its contract. The measure is the days left. Assumes nothing.
 use Prim.Native.Nat.{ℕ, _+_, _-_}
 use mathlib.Core.Path.{sym, subst, _∙_}
 use mathlib.Core.Logic.{⊎-elim}
 use borrow.Author.Needs.{needs}
 use native.Mathlib.Omega.{arith}
 use Rattle.days.specs.Days.{lastDay}
 use Rattle.days.proofs.LastInWindow.{Passing, passing-first, passing-business, passing-other, ends-here, ends-last}
-use Rattle.days.proofs.last_in_window.Statement.{statement}
-use Rattle.days.proofs.last_in_window.Tie as tie
+use Rattle.day_searches.proofs.last_in_window.Statement.{statement}
+use Rattle.day_searches.proofs.last_in_window.Tie as tie
 
 abbrev Inv-loop : tie.InvT-loop
 Inv-loop calendar width today left₀ day₀ left day = Passing calendar width today left day

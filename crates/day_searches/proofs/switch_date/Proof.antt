@@ -1,14 +1,14 @@
--- `days::switch_date` meets its contract. The loop's invariant: the search from the day reached gives what the search from today gives.
+-- `day_searches::switch_date` meets its contract. The loop's invariant: the search from the day reached gives what the search from today gives.
 -- The measure is the days left. Assumes nothing.
 use Prim.Native.Nat.{_-_, _<_, _≤_}
 use mathlib.Core.Path.{_≡_, sym, _∙_}
 use native.Mathlib.Omega.{arith}
 use borrow.Author.Needs.{needs}
 use borrow.Author.Tests.{le-leb, lt-leb}
 use Rattle.days.specs.Days.{noDay, kindOfDay, switchDate}
 use Rattle.days.proofs.Laws.{switch-end, switch-here, switch-next}
-use Rattle.days.proofs.switch_date.Statement.{statement}
-use Rattle.days.proofs.switch_date.Tie as tie
+use Rattle.day_searches.proofs.switch_date.Statement.{statement}
+use Rattle.day_searches.proofs.switch_date.Tie as tie
 
 abbrev Inv-loop : tie.InvT-loop
 Inv-loop calendar today day₀ day = switchDate calendar day ≡ switchDate calendar today

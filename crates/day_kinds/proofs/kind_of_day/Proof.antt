@@ -1,8 +1,8 @@
--- `days::kind_of_day` meets its contract: at each return the tests that led there pick the case of `kindOfDay`. Assumes nothing.
+-- `day_kinds::kind_of_day` meets its contract: at each return the tests that led there pick the case of `kindOfDay`. Assumes nothing.
 use borrow.Author.Needs.{needs}
 use Rattle.days.proofs.Laws.{kind-known, kind-unknown, kind-outside}
-use Rattle.days.proofs.kind_of_day.Statement.{statement}
-use Rattle.days.proofs.kind_of_day.Tie as tie
+use Rattle.day_kinds.proofs.kind_of_day.Statement.{statement}
+use Rattle.day_kinds.proofs.kind_of_day.Tie as tie
 
 shared-slice-read-byte : tie.Need-shared-slice-read-byte
 shared-slice-read-byte c = search needs

@@ -2,7 +2,6 @@
 // Document 01, "Records". The tests of a kind have no branch.
 ghost use mathlib.Core.Path.{_≡_};
 ghost use Rattle.records.specs.Records.{orderDay, wellFormed};
-ghost use Rattle.records.specs.Kinds.{newOrderHolds};
 use days::LAST_DAY;
 use record_orders::named_order_holds;
 use records::LAST_RETAILER;
@@ -21,21 +20,8 @@ fn order_day_holds(kind: u8, day: u16) -> bool
     }
 }
 
-// A new order uses every field: the detail is the order kind.
-fn new_order_holds(fields: Record) -> bool
-    ensures { λ r. ⌜ r ≡ newOrderHolds fields ⌝ }
-{
-    let detail = fields.detail;
-    let retailer = fields.retailer;
-    (order_kind::MOVE_IN <= detail)
-        & (detail <= order_kind::MASS_TRANSITION_DROP)
-        & order_day_holds(detail, fields.day)
-        & (fields.reference != 0)
-        & (fields.premise != 0)
-        & ((1 <= retailer) & (retailer <= LAST_RETAILER))
-}
-
-// Dispatch on the record kind. A create uses the day, the premise, and a retailer or none; a retire the premise; a day mark the day.
+// Dispatch on the record kind. A create uses the day, the premise, and a retailer or none; a retire the premise; a new order every field, its
+// detail the order kind; a day mark the day.
 pub fn well_formed(fields: Record) -> bool
     ensures { λ r. ⌜ r ≡ wellFormed fields ⌝ }
 {
@@ -55,7 +41,14 @@ pub fn well_formed(fields: Record) -> bool
                 & (fields.premise != 0)
                 & (fields.retailer == 0)
         },
-        record_kind::NEW_ORDER => new_order_holds(fields),
+        record_kind::NEW_ORDER => {
+            (order_kind::MOVE_IN <= fields.detail)
+                & (fields.detail <= order_kind::MASS_TRANSITION_DROP)
+                & order_day_holds(fields.detail, fields.day)
+                & (fields.reference != 0)
+                & (fields.premise != 0)
+                & ((1 <= fields.retailer) & (fields.retailer <= LAST_RETAILER))
+        },
         record_kind::SCHEDULED..=record_kind::REPLY => named_order_holds(fields),
         record_kind::DAY_MARK => {
             (fields.detail == 0)

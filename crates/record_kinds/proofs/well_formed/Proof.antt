@@ -1,15 +1,15 @@
--- `record_kinds::well_formed` meets its contract: in each arm the kind picks the case of `wellFormed`, whose tests the arm has in its order or
--- asks of a function; there is no kind below or past them. Assumes nothing.
+-- `record_kinds::well_formed` meets its contract: in each arm the kind picks the case of `wellFormed`, whose tests the arm has in its order; a
+-- new order's day is tested by `order_day_holds`, the kinds that name an order by `named_order_holds`; there is no kind below or past them. Assumes nothing.
 use borrow.Author.Needs.{needs}
 use native.Mathlib.Omega.{arith}
-use mathlib.Core.Path.{refl, sym, _∙_}
+use mathlib.Core.Path.{refl, sym}
 use Rattle.records.specs.Records.{kindCreate, kindRetire, kindNewOrder, kindDayMark}
 use Rattle.records.proofs.ByKind.{formed-at, formed-past}
 use Rattle.record_kinds.proofs.well_formed.Statement.{statement}
 use Rattle.record_kinds.proofs.well_formed.Tie as tie
 
-new-order-holds-requires : tie.Need-new-order-holds-requires
-new-order-holds-requires c κs = search needs
+order-day-holds-requires : tie.Need-order-day-holds-requires
+order-day-holds-requires c κs = search needs
 
 named-order-holds-requires : tie.Need-named-order-holds-requires
 named-order-holds-requires c κs = search needs
@@ -21,7 +21,10 @@ returns-2 : tie.Need-returns-2
 returns-2 c = sym (formed-at kindRetire _ (c .before .before .before .before .before .match .keys2))
 
 returns-3 : tie.Need-returns-3
-returns-3 c = c .new-order-holds .ensures ∙ sym (formed-at kindNewOrder _ (c .before .match .keys3))
+returns-3 c =
+    let day = c .before .before .before .before in
+    let arm = day .before .before .before in
+    rw (formed-at kindNewOrder (arm .before .args .fields) (arm .match .keys3), day .order-day-holds .ensures) refl
 
 returns-4 : tie.Need-returns-4
 returns-4 c =
@@ -39,4 +42,4 @@ returns-7 c = sym (formed-past _ (omega arith))
 
 pub well-formed-spec : {M : Type 1} → statement M
 well-formed-spec =
-    tie.close (tie.spec new-order-holds-requires named-order-holds-requires returns returns-2 returns-3 returns-4 returns-5 returns-6 returns-7)
+    tie.close (tie.spec order-day-holds-requires named-order-holds-requires returns returns-2 returns-3 returns-4 returns-5 returns-6 returns-7)

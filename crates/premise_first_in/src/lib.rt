@@ -1,13 +1,11 @@
 // The premise layer, inner: whether a new order is not first in, by table 11.1 and the rule on standard switches.
 ghost use mathlib.Core.Path.{_≡_};
-ghost use mathlib.Core.Bool.{_&&_};
-ghost use lib.Dec.{eqb, leb};
-ghost use Rattle.records.specs.Records.{standardSwitch};
-ghost use Rattle.premise.specs.Orders.{hasKind, held};
+ghost use Rattle.premise.specs.Orders.{held};
 ghost use Rattle.premise.specs.FirstIn.{refuses, standsInWay, notFirstIn};
 ghost use Rattle.premise.specs.WellKept.{Tidy};
 use premise::File;
 use premise::Order;
+use records::order_kind;
 
 // Table 11.1, of one premise: a row for each kind of a Scheduled order, a column for each kind of a new one; 1 refuses.
 const TABLE: [[u8; 4]; 5] = [
@@ -22,57 +20,31 @@ const TABLE: [[u8; 4]; 5] = [
 fn is_refused(held: u8, new: u8) -> bool
     ensures { λ r. ⌜ r ≡ refuses held new ⌝ }
 {
-    if held < records::order_kind::MOVE_IN {
+    if !((order_kind::MOVE_IN <= held)
+        & (held <= order_kind::MASS_TRANSITION_DROP)
+        & (order_kind::MOVE_IN <= new)
+        & (new <= order_kind::SELF_SELECTED_SWITCH)) {
         return false;
     }
-    if records::order_kind::MASS_TRANSITION_DROP < held {
-        return false;
-    }
-    if new < records::order_kind::MOVE_IN {
-        return false;
-    }
-    if records::order_kind::SELF_SELECTED_SWITCH < new {
-        return false;
-    }
-    let i = (held - records::order_kind::MOVE_IN) as usize;
-    let j = (new - records::order_kind::MOVE_IN) as usize;
+    let i = (held - order_kind::MOVE_IN) as usize;
+    let j = (new - order_kind::MOVE_IN) as usize;
     TABLE[i][j] == 1
 }
 
-// Whether a held order has the new one's day and the table refuses the new one.
-fn refuses_day(o: Order, new: u8, requested: u16) -> bool
-    ensures { λ r. ⌜ r ≡ eqb (o .scheduled) requested && refuses (o .kind) new ⌝ }
-{
-    if o.scheduled != requested {
-        return false;
-    }
-    is_refused(o.kind, new)
-}
-
-// Whether a held standard switch is at or after a new one.
-fn switches_later(o: Order, new: u8, requested: u16) -> bool
-    ensures { λ r. ⌜ r ≡ eqb new standardSwitch && hasKind standardSwitch o && leb requested (o .scheduled) ⌝ }
-{
-    if new != records::order_kind::STANDARD_SWITCH {
-        return false;
-    }
-    if o.kind != records::order_kind::STANDARD_SWITCH {
-        return false;
-    }
-    requested <= o.scheduled
-}
-
-// Whether a held order stands in the way of a new one.
+// Whether a held order stands in the way of a new one: it is Scheduled for its day and the table refuses the new one, or both are standard
+// switches and it is at or after the new one.
 fn stands_in_way(o: Order, new: u8, requested: u16) -> bool
     ensures { λ r. ⌜ r ≡ standsInWay new requested o ⌝ }
 {
+    let kind = o.kind;
+    let scheduled = o.scheduled;
     if o.status != premise::SCHEDULED {
         return false;
     }
-    if refuses_day(o, new, requested) {
-        return true;
-    }
-    switches_later(o, new, requested)
+    ((scheduled == requested) & is_refused(kind, new))
+        | ((new == order_kind::STANDARD_SWITCH)
+            & (kind == order_kind::STANDARD_SWITCH)
+            & (requested <= scheduled))
 }
 
 // Whether a new order is not first in: the search is left at the first order that stands in the way.

@@ -1,25 +1,21 @@
 -- `premise_first_in::is_refused` meets its contract: the table's entry inside its rows and columns, and no refusal outside. Assumes nothing.
-use mathlib.Core.Path.{sym}
 use native.Mathlib.Omega.{arith}
 use borrow.Author.Needs.{needs}
-use Rattle.premise_first_in.proofs.Table.{no-row, past-rows, no-column, past-columns, in-table}
+use Rattle.premise_first_in.proofs.Table.{outside, within, in-table}
 use Rattle.premise_first_in.proofs.is_refused.Statement.{statement}
 use Rattle.premise_first_in.proofs.is_refused.Tie as tie
 
 returns : tie.Need-returns
-returns c = sym (no-row _ _ (omega arith))
+returns c = outside (c .before .args .held) (c .before .args .new) (c .if1 .taken)
 
-returns-2 : tie.Need-returns-2
-returns-2 c = sym (past-rows _ _ (omega arith))
-
-returns-3 : tie.Need-returns-3
-returns-3 c = sym (no-column _ _ (omega arith))
-
-returns-4 : tie.Need-returns-4
-returns-4 c = sym (past-columns _ _ (omega arith))
+sub-i : tie.Need-sub-i
+sub-i c = omega (arith, within (c .before .args .held) (c .before .args .new) (c .if1 .left))
 
 cast-i : tie.Need-cast-i
 cast-i c = search needs
+
+sub-j : tie.Need-sub-j
+sub-j c = omega (arith, within (c .before .args .held) (c .before .args .new) (c .if1 .left))
 
 cast-j : tie.Need-cast-j
 cast-j c = search needs
@@ -28,27 +24,17 @@ mul-result : tie.Need-mul-result
 mul-result c = search needs
 
 index-1-result : tie.Need-index-1-result
-index-1-result c = search needs
+index-1-result c = omega (arith, within (c .before .args .held) (c .before .args .new) (c .if1 .left))
 
 index-2-result : tie.Need-index-2-result
-index-2-result c = search needs
+index-2-result c = omega (arith, within (c .before .args .held) (c .before .args .new) (c .if1 .left))
 
-returns-5 : tie.Need-returns-5
-returns-5 c =
-    let a = c .before .before .before .before .before .args in
-    in-table (a .held) (a .new) (omega arith) (omega arith)
+returns-2 : tie.Need-returns-2
+returns-2 c =
+    let e = c .before in
+    in-table (e .before .args .held) (e .before .args .new) (e .if1 .left)
 
 pub is-refused-spec : {M : Type 1} → statement M
 is-refused-spec =
     tie.close
-    (tie.spec
-    returns
-    returns-2
-    returns-3
-    returns-4
-    cast-i
-    cast-j
-    mul-result
-    index-1-result
-    index-2-result
-    returns-5)
+    (tie.spec returns sub-i cast-i sub-j cast-j mul-result index-1-result index-2-result returns-2)

@@ -2,7 +2,6 @@
 -- where the orders are read. Assumes nothing.
 use mathlib.Core.Path.{_≡_, sym, _∙_}
 use lib.ListN.{length}
-use borrow.Author.Needs.{needs}
 use borrow.Author.Tests.{not-true, not-false}
 use Rattle.lists.proofs.Length.{unmapped}
 use Rattle.premise.specs.Orders.{mostOrders}

@@ -20,7 +20,7 @@ pub fn is_touched(business: bool, today: u16, last: u16, file: File) -> bool
         if premise_moves::is_moving(business, today, o) {
             return true;
         }
-        if premise_stirs::may_stir(last, o) {
+        if premise_may_stir::may_stir(last, o) {
             if premise_stirs::is_stirring(today, last, file, at, o) {
                 return true;
             }

@@ -18,7 +18,7 @@ pub fn any_stirs(today: u16, last: u16, file: File) -> bool
         let o = file.orders[i];
         let place = i;
         i += 1;
-        if premise_stirs::may_stir(last, o) {
+        if premise_may_stir::may_stir(last, o) {
             if premise_stirs::is_stirring(today, last, file, place, o) {
                 return true;
             }

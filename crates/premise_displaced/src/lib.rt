@@ -20,11 +20,9 @@ fn any_switch_on(file: File, day: u16) -> bool
     requires { ⌜ Tidy file ⌝ }
     ensures { λ r. ⌜ r ≡ anyOf (switchOn day) (held file) ⌝ }
 {
-    let n = file.count;
     let mut i: usize = 0;
-    while i < n {
-        let o = file.orders[i];
-        if is_switch_on(day, o) {
+    while i < file.count {
+        if is_switch_on(day, file.orders[i]) {
             return true;
         }
         i += 1;

@@ -14,24 +14,14 @@ use Rattle.premise_wait_counts.proofs.Waits.{review-goes-on, permit-goes-on}
 use Rattle.premise_moves.specs.Moves.{moves}
 
 module _ (business : Bool) (today : ℕ) (o : Order) where
-  module _ (review : o .status ≡ inReview) where
-    pub moves-business : business ≡ true → true ≡ moves business today o
-    unfolding moves
-    moves-business b = simp (eq-eqb (o .status) inReview review, b)
-
-    pub moves-ends : business ≡ false → reviewEnds (o .waited .0) (o .requested) today ≡ moves business today o
-    unfolding moves
-    moves-ends b = simp (eq-eqb (o .status) inReview review, b)
+  pub moves-review : o .status ≡ inReview → (business || reviewEnds (o .waited .0) (o .requested) today) ≡ moves business today o
+  unfolding moves
+  moves-review review = simp (eq-eqb (o .status) inReview review)
 
   module _ (review : o .status ≡ inReview → ⊥) where
-    module _ (permit : o .status ≡ permitPending) where
-      pub moves-waited : o .waited .0 ≡ mostWaited → true ≡ moves business today o
-      unfolding moves
-      moves-waited w = simp (ne-eqb (o .status) inReview review, eq-eqb (o .status) permitPending permit, eq-eqb (o .waited .0) mostWaited w)
-
-      pub moves-counts : (o .waited .0 ≡ mostWaited → ⊥) → (business && leb (o .requested) today) ≡ moves business today o
-      unfolding moves
-      moves-counts w = simp (ne-eqb (o .status) inReview review, eq-eqb (o .status) permitPending permit, ne-eqb (o .waited .0) mostWaited w)
+    pub moves-permit : o .status ≡ permitPending → (eqb (o .waited .0) mostWaited || business && leb (o .requested) today) ≡ moves business today o
+    unfolding moves
+    moves-permit permit = simp (ne-eqb (o .status) inReview review, eq-eqb (o .status) permitPending permit)
 
     pub moves-cancel : (o .status ≡ permitPending → ⊥) → hasStatus cancelPending o ≡ moves business today o
     unfolding moves

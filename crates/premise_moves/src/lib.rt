@@ -8,17 +8,11 @@ pub fn is_moving(business: bool, today: u16, o: Order) -> bool
     ensures { λ r. ⌜ r ≡ moves business today o ⌝ }
 {
     if o.status == premise::IN_REVIEW {
-        if business {
-            return true;
-        }
-        let waited = o.waited;
-        return premise_wait_counts::review_ends(waited, o.requested, today);
+        return business | premise_wait_counts::review_ends(o.waited, o.requested, today);
     }
     if o.status == premise::PERMIT_PENDING {
-        if o.waited.0 == premise::MOST_WAITED {
-            return true;
-        }
-        return premise_wait_counts::counts(business, o.requested, today);
+        return (o.waited.0 == premise::MOST_WAITED)
+            | premise_wait_counts::counts(business, o.requested, today);
     }
     o.status == premise::CANCEL_PENDING
 }

@@ -22,11 +22,9 @@ fn any_overtakes(today: u16, file: File, requested: u16) -> bool
     requires { ⌜ Tidy file ⌝ }
     ensures { λ r. ⌜ r ≡ anyOf (overtakes today requested) (held file) ⌝ }
 {
-    let n = file.count;
     let mut i: usize = 0;
-    while i < n {
-        let o = file.orders[i];
-        if is_overtaking(today, requested, o) {
+    while i < file.count {
+        if is_overtaking(today, requested, file.orders[i]) {
             return true;
         }
         i += 1;

@@ -16,7 +16,7 @@ use Rattle.premise.specs.WellKept.{Tidy}
 use Rattle.premise.specs.Promises.{Room, DoneToFile}
 use Rattle.premise_notices.proofs.Writes.{writes-none, room-first, room-then, writes-then}
 use Rattle.premise.proofs.KeptFiles.{length-held}
-use Rattle.premise_quiet.proofs.Quiet.{evaluated-by-last}
+use Rattle.premise_stirred.proofs.Stirred.{evaluated-by-last}
 use Rattle.premise_run.specs.declared.Pass.{Pass}
 use Rattle.premise_run.specs.declared.Pass.the-variants.{Settle, Displace, Lapse, Tell}
 use Rattle.premise_run.specs.Which.{stepOf}

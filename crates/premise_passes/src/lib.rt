@@ -20,17 +20,28 @@ pub fn evaluate(
     requires { ⌜ Tidy file × Room standing (evaluated (now calendar) today file .notices) (now buffer) × LastInWindow (now calendar) windowWidth today last ⌝ }
     ensures { λ r. ⌜ DoneToFile (evaluated (now (calendar .entry)) today file) standing r (now (buffer .entry)) (now (buffer .exit)) ⌝ }
 {
-    if !premise_quiet::any_stirs(today, last, file) {
+    if !premise_stirred::any_stirs(today, last, file) {
         return Passed {
             file: file,
             sent: standing,
         };
     }
     let settled = premise_run::run(Pass::Settle, today, last, file, standing, buffer);
-    let f = settled.file;
-    let displaced = premise_run::run(Pass::Displace, today, last, f, settled.sent, buffer);
-    let g = displaced.file;
-    let lapsed = premise_run::run(Pass::Lapse, today, last, g, displaced.sent, buffer);
-    let h = lapsed.file;
-    premise_run::run(Pass::Tell, today, last, h, lapsed.sent, buffer)
+    let displaced = premise_run::run(
+        Pass::Displace,
+        today,
+        last,
+        settled.file,
+        settled.sent,
+        buffer,
+    );
+    let lapsed = premise_run::run(
+        Pass::Lapse,
+        today,
+        last,
+        displaced.file,
+        displaced.sent,
+        buffer,
+    );
+    premise_run::run(Pass::Tell, today, last, lapsed.file, lapsed.sent, buffer)
 }

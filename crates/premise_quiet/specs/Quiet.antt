@@ -1,7 +1,7 @@
--- Files that the evaluation, or a day mark, leaves alone.
-use Prim.Native.Nat.{ℕ, suc}
+-- Files that a day mark leaves alone.
+use Prim.Native.Nat.{ℕ}
 use mathlib.Core.Path.{_≡_}
-use mathlib.Core.List.{List, [], _∷_}
+use mathlib.Core.List.{List, []}
 use mathlib.Core.Bool.{Bool, false, _||_}
 use Rattle.days.specs.Days.{isBusinessDay}
 use Rattle.days.specs.Window.{windowWidth, LastInWindow}
@@ -12,11 +12,7 @@ use Rattle.premise.specs.OnePremise.{marked}
 use Rattle.premise.specs.WellKept.{Tidy}
 use Rattle.premise_moves.specs.Moves.{moves}
 use Rattle.premise_stirs.specs.Stirs.{stirs}
-
--- whether some order passes a test that goes by its place, the places counted from a number on
-abbrev pub anyAt : (ℕ → Order → Bool) → ℕ → List Order → Bool
-anyAt p i [] = false
-anyAt p i (o ∷ os) = p i o || anyAt p (suc i) os
+use Rattle.premise_stirred.specs.Places.{anyAt}
 
 -- The clock or the evaluation changes the order at a place.
 abbrev pub touches : Bool → ℕ → ℕ → List Order → ℕ → Order → Bool

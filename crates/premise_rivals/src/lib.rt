@@ -24,11 +24,9 @@ fn first_rival(file: File, last: u16, day: u16, only: bool) -> Found
     requires { ⌜ Tidy file ⌝ }
     ensures { λ r. ⌜ r ≡ placeOf (rival (upTo last) day only) (held file) ⌝ }
 {
-    let n = file.count;
     let mut i: usize = 0;
-    while i < n {
-        let o = file.orders[i];
-        if is_rival(last, day, only, o) {
+    while i < file.count {
+        if is_rival(last, day, only, file.orders[i]) {
             return Found::At(i);
         }
         i += 1;

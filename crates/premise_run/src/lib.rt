@@ -57,8 +57,7 @@ pub fn run(
     let mut sent = standing;
     let mut i: usize = 0;
     while i < n {
-        let o = file.orders[i];
-        let s = change(which, today, last, file, i, o, sent, buffer);
+        let s = change(which, today, last, file, i, file.orders[i], sent, buffer);
         let t = s.order;
         out.orders[i] = t;
         sent = s.sent;

@@ -12,7 +12,8 @@ use Rattle.records.specs.Records.{moveOut, massTransitionDrop}
 use Rattle.premise.specs.declared.Order.{Order}
 use Rattle.premise.specs.Orders.{permitPending, scheduled, cancelPending, hasStatus, hasKind, isSwitch}
 use Rattle.premise.specs.Evaluation.{isStanding, contends, kept, givesWay, switchOn, displaced, overtaken, due}
-use Rattle.premise_stirs.specs.Stirs.{stirs, mayStir}
+use Rattle.premise_may_stir.specs.MayStir.{mayStir}
+use Rattle.premise_stirs.specs.Stirs.{stirs}
 use Rattle.premise_stirs.proofs.Cases.{no-switch, displaced-other, not-overtaken}
 
 -- ---- one of four tests, where the others fail

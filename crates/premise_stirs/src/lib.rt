@@ -2,17 +2,9 @@
 ghost use mathlib.Core.Path.{_≡_};
 ghost use Rattle.premise.specs.Orders.{held};
 ghost use Rattle.premise.specs.WellKept.{Tidy};
-ghost use Rattle.premise_stirs.specs.Stirs.{stirs, mayStir};
+ghost use Rattle.premise_stirs.specs.Stirs.{stirs};
 use premise::File;
 use premise::Order;
-
-// Whether the evaluation may change an order, as far as the order itself says.
-pub fn may_stir(last: u16, o: Order) -> bool
-    ensures { λ r. ⌜ r ≡ mayStir last o ⌝ }
-{
-    (o.status == premise::PERMIT_PENDING)
-        | (premise_order_tests::is_standing(o) & (o.scheduled <= last))
-}
 
 // Whether the evaluation changes the order at a place of a file. The order's status and kind say which pass can: a test that takes the file
 // copies it.

@@ -14,19 +14,19 @@ use Rattle.premise_displaced.proofs.any_switch_on.Statement.{statement}
 use Rattle.premise_displaced.proofs.any_switch_on.Tie as tie
 
 abbrev Inv-loop : tie.InvT-loop
-Inv-loop day file n i₀ i = (i ≤ n) × (anyOf (switchOn day) (drop i (held file)) ≡ anyOf (switchOn day) (held file))
+Inv-loop day file i₀ i = (i ≤ file .count) × (anyOf (switchOn day) (drop i (held file)) ≡ anyOf (switchOn day) (held file))
 
 abbrev μ-loop : tie.MeasureT-loop
-μ-loop day file n i₀ i = n - i
+μ-loop day file i₀ i = file .count - i
 
 loop-holds : tie.Need-loop-holds Inv-loop μ-loop
 loop-holds c = (omega arith, refl)
 
-mul-o : tie.Need-mul-o Inv-loop μ-loop
-mul-o c = search needs
+mul-is-switch-on : tie.Need-mul-is-switch-on Inv-loop μ-loop
+mul-is-switch-on c = search needs
 
-element-copy-out-o : tie.Need-element-copy-out-o Inv-loop μ-loop
-element-copy-out-o c = search needs
+element-copy-out-is-switch-on : tie.Need-element-copy-out-is-switch-on Inv-loop μ-loop
+element-copy-out-is-switch-on c = search needs
 
 is-switch-on-requires : tie.Need-is-switch-on-requires Inv-loop μ-loop
 is-switch-on-requires c κs = search needs
@@ -62,8 +62,8 @@ any-switch-on-spec =
     Inv-loop
     μ-loop
     loop-holds
-    mul-o
-    element-copy-out-o
+    mul-is-switch-on
+    element-copy-out-is-switch-on
     is-switch-on-requires
     returns
     add-i

@@ -21,7 +21,7 @@ wind-requires c κs =
 evaluate-requires : tie.Need-evaluate-requires
 unfolding marked
 evaluate-requires c κs =
-    let w = c .before .before .before .before in
+    let w = c .before .before .before in
     let s = w .before .before .before .before in
     let a = s .args in
     (pass-tidy (λ (i : ℕ). ticked (isBusinessDay (a .calendar .now) (a .today)) (a .today) (a .file .premise)) (a .file) (s .pre .0) (a .standing) (w .wind .result) (a .buffer .now) (w .wind .last .1 .1 .1 .1 .0) (w .wind .ensures), then-room (onFile (a .file) (clock (a .calendar .now) (a .today) (a .file .premise) (held (a .file)))) (evaluated (a .calendar .now) (a .today)) (a .standing) (a .buffer .now) (s .pre .1) (w .wind .result) (w .wind .last .1 .1 .1 .1 .0) (w .wind .ensures), s .pre .2)
@@ -33,7 +33,7 @@ returns : tie.Need-returns
 unfolding marked
 returns c =
     let v = c .before .before in
-    let w = v .before .before .before .before .before in
+    let w = v .before .before .before .before in
     let s = w .before .before .before .before in
     let a = s .args in
     then-done (onFile (a .file) (clock (a .calendar .now) (a .today) (a .file .premise) (held (a .file)))) (evaluated (a .calendar .now) (a .today)) (a .standing) (a .buffer .now) (s .pre .1) (w .wind .result) (w .wind .last .1 .1 .1 .1 .0) (w .wind .ensures) (v .evaluate .result) _ (v .evaluate .ensures)

@@ -14,19 +14,19 @@ use Rattle.premise_overtaken.proofs.any_overtakes.Statement.{statement}
 use Rattle.premise_overtaken.proofs.any_overtakes.Tie as tie
 
 abbrev Inv-loop : tie.InvT-loop
-Inv-loop today requested file n i₀ i = (i ≤ n) × (anyOf (overtakes today requested) (drop i (held file)) ≡ anyOf (overtakes today requested) (held file))
+Inv-loop today requested file i₀ i = (i ≤ file .count) × (anyOf (overtakes today requested) (drop i (held file)) ≡ anyOf (overtakes today requested) (held file))
 
 abbrev μ-loop : tie.MeasureT-loop
-μ-loop today requested file n i₀ i = n - i
+μ-loop today requested file i₀ i = file .count - i
 
 loop-holds : tie.Need-loop-holds Inv-loop μ-loop
 loop-holds c = (omega arith, refl)
 
-mul-o : tie.Need-mul-o Inv-loop μ-loop
-mul-o c = search needs
+mul-is-overtaking : tie.Need-mul-is-overtaking Inv-loop μ-loop
+mul-is-overtaking c = search needs
 
-element-copy-out-o : tie.Need-element-copy-out-o Inv-loop μ-loop
-element-copy-out-o c = search needs
+element-copy-out-is-overtaking : tie.Need-element-copy-out-is-overtaking Inv-loop μ-loop
+element-copy-out-is-overtaking c = search needs
 
 is-overtaking-requires : tie.Need-is-overtaking-requires Inv-loop μ-loop
 is-overtaking-requires c κs = search needs
@@ -62,8 +62,8 @@ any-overtakes-spec =
     Inv-loop
     μ-loop
     loop-holds
-    mul-o
-    element-copy-out-o
+    mul-is-overtaking
+    element-copy-out-is-overtaking
     is-overtaking-requires
     returns
     add-i

@@ -5,7 +5,7 @@ use borrow.Author.Needs.{needs}
 use borrow.Author.Tests.{not-true}
 use Rattle.premise.specs.Evaluation.{evaluated}
 use Rattle.premise_notices.proofs.Writes.{writes-length}
-use Rattle.premise_quiet.proofs.Quiet.{evaluated-still}
+use Rattle.premise_stirred.proofs.Stirred.{evaluated-still}
 use Rattle.premise_passes.proofs.Then.{done-nothing, settle-ready, displace-ready, lapse-ready, tell-ready, evaluate-done}
 use Rattle.premise_passes.proofs.evaluate.Statement.{statement}
 use Rattle.premise_passes.proofs.evaluate.Tie as tie
@@ -28,24 +28,24 @@ run-requires c κs =
 
 run-requires-2 : tie.Need-run-requires-2
 run-requires-2 c κs =
-    let u = c .before .before .before .before in
+    let u = c .before .before .before in
     let s = u .before .before .before .before .before .before in
     let a = s .args in
     displace-ready (a .calendar .now) (a .today) (a .last) (s .pre .2) (a .file) (s .pre .0) (a .standing) (a .buffer .now) (s .pre .1) (u .run .result) (u .run .last .1 .1 .1 .1 .1 .0) (u .run .ensures)
 
 run-requires-3 : tie.Need-run-requires-3
 run-requires-3 c κs =
-    let v = c .before .before .before .before in
-    let u = v .before .before .before .before .before in
+    let v = c .before .before .before in
+    let u = v .before .before .before .before in
     let s = u .before .before .before .before .before .before in
     let a = s .args in
     lapse-ready (a .calendar .now) (a .today) (a .last) (s .pre .2) (a .file) (s .pre .0) (a .standing) (a .buffer .now) (s .pre .1) (u .run .result) (u .run .last .1 .1 .1 .1 .1 .0) (u .run .ensures) (v .run2 .result) (v .run2 .last .1 .1 .1 .1 .1 .0) (v .run2 .ensures)
 
 run-requires-4 : tie.Need-run-requires-4
 run-requires-4 c κs =
-    let w = c .before .before .before .before in
-    let v = w .before .before .before .before .before in
-    let u = v .before .before .before .before .before in
+    let w = c .before .before .before in
+    let v = w .before .before .before .before in
+    let u = v .before .before .before .before in
     let s = u .before .before .before .before .before .before in
     let a = s .args in
     tell-ready (a .calendar .now) (a .today) (a .last) (s .pre .2) (a .file) (s .pre .0) (a .standing) (a .buffer .now) (s .pre .1) (u .run .result) (u .run .last .1 .1 .1 .1 .1 .0) (u .run .ensures) (v .run2 .result) (v .run2 .last .1 .1 .1 .1 .1 .0) (v .run2 .ensures) (w .run3 .result) (w .run3 .last .1 .1 .1 .1 .1 .0) (w .run3 .ensures)
@@ -53,9 +53,9 @@ run-requires-4 c κs =
 same-length : tie.Need-same-length
 same-length c =
     let x = c .before .before in
-    let w = x .before .before .before .before .before in
-    let v = w .before .before .before .before .before in
-    let u = v .before .before .before .before .before in
+    let w = x .before .before .before .before in
+    let v = w .before .before .before .before in
+    let u = v .before .before .before .before in
     let s = u .before .before .before .before .before .before in
     let a = s .args in
     writes-length (a .standing) (a .buffer .now) (evaluated (a .calendar .now) (a .today) (a .file) .notices) (s .pre .1) (x .run4 .last .1 .1 .1 .1 .1 .0) (x .run4 .result .sent)
@@ -64,9 +64,9 @@ same-length c =
 returns-2 : tie.Need-returns-2
 returns-2 c =
     let x = c .before .before in
-    let w = x .before .before .before .before .before in
-    let v = w .before .before .before .before .before in
-    let u = v .before .before .before .before .before in
+    let w = x .before .before .before .before in
+    let v = w .before .before .before .before in
+    let u = v .before .before .before .before in
     let s = u .before .before .before .before .before .before in
     let a = s .args in
     evaluate-done (a .calendar .now) (a .today) (a .last) (s .pre .2) (a .file) (s .pre .0) (a .standing) (a .buffer .now) (s .pre .1) (u .run .result) (u .run .last .1 .1 .1 .1 .1 .0) (u .run .ensures) (v .run2 .result) (v .run2 .last .1 .1 .1 .1 .1 .0) (v .run2 .ensures) (w .run3 .result) (w .run3 .last .1 .1 .1 .1 .1 .0) (w .run3 .ensures) (x .run4 .result) (x .run4 .last .1 .1 .1 .1 .1 .0) (x .run4 .ensures)

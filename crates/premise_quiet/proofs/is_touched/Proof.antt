@@ -1,15 +1,18 @@
 -- `premise_quiet::is_touched` meets its contract. The loop's invariant: the search from the place reached on gives what the whole search gives.
 -- The measure is the places left. Assumes nothing.
 use Prim.Native.Nat.{ℕ, _≤_, _-_}
-use mathlib.Core.Path.{_≡_, sym, ap₂, _∙_}
+use mathlib.Core.Path.{_≡_, refl, sym, ap₂, _∙_}
 use mathlib.Core.Bool.{Bool, _||_}
+use native.Mathlib.Omega.{arith}
 use borrow.Author.Needs.{needs}
 use lib.ListN.{drop}
 use Rattle.premise.specs.declared.Order.{Order}
 use Rattle.premise.specs.Orders.{held}
 use Rattle.premise_stirs.proofs.Stirs.{stirs-not}
-use Rattle.premise_quiet.specs.Quiet.{anyAt, touches, touched}
-use Rattle.premise_quiet.proofs.Places.{touches-moves, at-hit, at-next, at-end}
+use Rattle.premise_stirred.specs.Places.{anyAt}
+use Rattle.premise_stirred.proofs.Places.{at-hit, at-next, at-end}
+use Rattle.premise_quiet.specs.Quiet.{touches, touched}
+use Rattle.premise_quiet.proofs.Quiet.{touches-moves}
 use Rattle.premise_quiet.proofs.is_touched.Statement.{statement}
 use Rattle.premise_quiet.proofs.is_touched.Tie as tie
 
@@ -26,7 +29,7 @@ test l =
     touches (a .business) (a .today) (a .last) (held (a .t4))
 
 loop-holds : tie.Need-loop-holds Inv-loop μ-loop
-loop-holds c = search needs
+loop-holds c = (omega arith, refl)
 
 mul-o : tie.Need-mul-o Inv-loop μ-loop
 mul-o c = search needs

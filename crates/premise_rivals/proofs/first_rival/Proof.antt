@@ -1,7 +1,8 @@
 -- `premise_rivals::first_rival` meets its contract. The loop's invariant: the search from the place reached on gives what the whole search gives.
 -- The measure is the places left. Assumes nothing.
 use Prim.Native.Nat.{_≤_, _-_}
-use mathlib.Core.Path.{_≡_, sym, _∙_}
+use mathlib.Core.Path.{_≡_, refl, sym, _∙_}
+use native.Mathlib.Omega.{arith}
 use borrow.Author.Needs.{needs}
 use lib.ListN.{drop}
 use Rattle.lists.specs.Search.{placeFrom, placeOf}
@@ -14,19 +15,19 @@ use Rattle.premise_rivals.proofs.first_rival.Statement.{statement}
 use Rattle.premise_rivals.proofs.first_rival.Tie as tie
 
 abbrev Inv-loop : tie.InvT-loop
-Inv-loop last day only file n i₀ i = (i ≤ n) × (placeFrom (rival (upTo last) day only) i (drop i (held file)) ≡ placeOf (rival (upTo last) day only) (held file))
+Inv-loop last day only file i₀ i = (i ≤ file .count) × (placeFrom (rival (upTo last) day only) i (drop i (held file)) ≡ placeOf (rival (upTo last) day only) (held file))
 
 abbrev μ-loop : tie.MeasureT-loop
-μ-loop last day only file n i₀ i = n - i
+μ-loop last day only file i₀ i = file .count - i
 
 loop-holds : tie.Need-loop-holds Inv-loop μ-loop
-loop-holds c = search needs
+loop-holds c = (omega arith, refl)
 
-mul-o : tie.Need-mul-o Inv-loop μ-loop
-mul-o c = search needs
+mul-is-rival : tie.Need-mul-is-rival Inv-loop μ-loop
+mul-is-rival c = search needs
 
-element-copy-out-o : tie.Need-element-copy-out-o Inv-loop μ-loop
-element-copy-out-o c = search needs
+element-copy-out-is-rival : tie.Need-element-copy-out-is-rival Inv-loop μ-loop
+element-copy-out-is-rival c = search needs
 
 is-rival-requires : tie.Need-is-rival-requires Inv-loop μ-loop
 is-rival-requires c κs = search needs
@@ -62,8 +63,8 @@ first-rival-spec =
     Inv-loop
     μ-loop
     loop-holds
-    mul-o
-    element-copy-out-o
+    mul-is-rival
+    element-copy-out-is-rival
     is-rival-requires
     returns
     add-i

@@ -27,11 +27,11 @@ step l =
 loop-holds : tie.Need-loop-holds Inv-loop μ-loop
 loop-holds c = sofar-none _ _ _ _
 
-mul-o : tie.Need-mul-o Inv-loop μ-loop
-mul-o c = search needs
+mul-change : tie.Need-mul-change Inv-loop μ-loop
+mul-change c = search needs
 
-element-copy-out-o : tie.Need-element-copy-out-o Inv-loop μ-loop
-element-copy-out-o c = search needs
+element-copy-out-change : tie.Need-element-copy-out-change Inv-loop μ-loop
+element-copy-out-change c = search needs
 
 change-requires : tie.Need-change-requires Inv-loop μ-loop
 change-requires c κs =
@@ -82,8 +82,8 @@ run-spec =
     Inv-loop
     μ-loop
     loop-holds
-    mul-o
-    element-copy-out-o
+    mul-change
+    element-copy-out-change
     change-requires
     mul-t
     element-set-from-t

@@ -1,18 +1,19 @@
--- `premise_quiet::any_stirs` meets its contract. The loop's invariant: the search from the place reached on gives what the whole search gives.
+-- `premise_stirred::any_stirs` meets its contract. The loop's invariant: the search from the place reached on gives what the whole search gives.
 -- The measure is the places left. Assumes nothing.
 use Prim.Native.Nat.{ℕ, _≤_, _-_}
-use mathlib.Core.Path.{_≡_, sym, _∙_}
+use mathlib.Core.Path.{_≡_, refl, sym, _∙_}
 use mathlib.Core.Bool.{Bool}
+use native.Mathlib.Omega.{arith}
 use borrow.Author.Needs.{needs}
 use lib.ListN.{drop}
 use Rattle.premise.specs.declared.Order.{Order}
 use Rattle.premise.specs.Orders.{held}
 use Rattle.premise_stirs.specs.Stirs.{stirs}
 use Rattle.premise_stirs.proofs.Stirs.{stirs-not}
-use Rattle.premise_quiet.specs.Quiet.{anyAt}
-use Rattle.premise_quiet.proofs.Places.{at-hit, at-next, at-end}
-use Rattle.premise_quiet.proofs.any_stirs.Statement.{statement}
-use Rattle.premise_quiet.proofs.any_stirs.Tie as tie
+use Rattle.premise_stirred.specs.Places.{anyAt}
+use Rattle.premise_stirred.proofs.Places.{at-hit, at-next, at-end}
+use Rattle.premise_stirred.proofs.any_stirs.Statement.{statement}
+use Rattle.premise_stirred.proofs.any_stirs.Tie as tie
 
 abbrev Inv-loop : tie.InvT-loop
 Inv-loop today last file n i₀ i = (i ≤ n) × (anyAt (stirs today last (held file)) i (drop i (held file)) ≡ anyAt (stirs today last (held file)) 0 (held file))
@@ -27,7 +28,7 @@ test l =
     stirs (a .today) (a .last) (held (a .t3))
 
 loop-holds : tie.Need-loop-holds Inv-loop μ-loop
-loop-holds c = search needs
+loop-holds c = (omega arith, refl)
 
 mul-o : tie.Need-mul-o Inv-loop μ-loop
 mul-o c = search needs

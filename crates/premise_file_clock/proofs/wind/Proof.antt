@@ -1,4 +1,4 @@
--- `premise_marks::wind` meets its contract. The loop's invariant: the orders before the one reached are done, their notices sent. The measure
+-- `premise_file_clock::wind` meets its contract. The loop's invariant: the orders before the one reached are done, their notices sent. The measure
 -- is the places left. Assumes nothing.
 use Prim.Native.Nat.{ℕ, _-_}
 use mathlib.Core.Path.{sym, subst, subst⁻¹, _∙_}
@@ -11,8 +11,8 @@ use Rattle.premise.specs.Clock.{ticked}
 use Rattle.premise.specs.Promises.{Room, DoneToFile}
 use Rattle.premise_moves.proofs.Moves.{tick-still}
 use Rattle.premise_run.proofs.Turns.{Sofar, sofar-none, sofar-length, sofar-room, sofar-turn, sofar-leaves, sofar-all}
-use Rattle.premise_marks.proofs.wind.Statement.{statement}
-use Rattle.premise_marks.proofs.wind.Tie as tie
+use Rattle.premise_file_clock.proofs.wind.Statement.{statement}
+use Rattle.premise_file_clock.proofs.wind.Tie as tie
 
 abbrev Inv-loop : tie.InvT-loop
 Inv-loop calendar today standing buffer₀ file business n out₀ sent₀ i₀ buffer out sent i =

@@ -29,7 +29,9 @@ use Rattle.book.specs.declared.Book.{Book}
 use Rattle.book.specs.Book.{mostFiles, filesOf, bookKept, fileFor, putIn, withFile}
 use Rattle.book.specs.Calls.{recordRows, callRows, markedFiles, premiseState, Result, onPremise, onReading, call, markedBook}
 use Rattle.book.specs.Laws.{BookKept, CallKeeps}
-use Rattle.book.proofs.Files.{found-has, put-length, put-held, taken-length, rises-rising, rising-rises}
+use Rattle.book.proofs.Files.{found-has, rises-rising, rising-rises}
+use Rattle.book.proofs.FilesPut.{put-length, put-held}
+use Rattle.book.proofs.FilesTaken.{taken-length}
 use Rattle.book.proofs.SameFiles.{Numbered, with-rising, with-each}
 use Rattle.book.proofs.Kept.{kept-of, count-is, book-kept-means}
 use Rattle.book.proofs.Rows.{Passed, passed, not-malformed, not-full}

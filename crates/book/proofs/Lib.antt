@@ -1,4 +1,6 @@
 pub mod Files
+pub mod FilesPut
+pub mod FilesTaken
 pub mod SameFiles
 pub mod Kept
 pub mod Rows

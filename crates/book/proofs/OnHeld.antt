@@ -21,7 +21,8 @@ use Rattle.book.specs.declared.Book.{Book}
 use Rattle.book.specs.Book.{filesOf, bookOf, bookKept, fileFor, putIn, withFile}
 use Rattle.book.specs.Calls.{noticeBytes, premiseState, Result, call, meetsRow6, onDayMark, asOne, inBook, givenOn}
 use Rattle.book.specs.Laws.{BookKept, OnHeld, withFileAt, numbersOf, CallOnHeld}
-use Rattle.book.proofs.Files.{Rising, rises-rising, found-at, put-at}
+use Rattle.book.proofs.Files.{Rising, rises-rising}
+use Rattle.book.proofs.FilesPut.{found-at, put-at}
 use Rattle.book.proofs.Kept.{count-is, stored, book-kept-means}
 use Rattle.book.proofs.Keeps.{step-kept-file, call-keeps}
 use Rattle.book.proofs.Acts.{acted, call-acts}

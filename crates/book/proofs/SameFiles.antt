@@ -11,7 +11,9 @@ use Rattle.lists.specs.Search.{Each}
 use Rattle.premise.specs.declared.File.{File}
 use Rattle.premise_laws.specs.Laws.{Held}
 use Rattle.book.specs.Book.{fileFor, putIn, withFile}
-use Rattle.book.proofs.Files.{Rising, found-below, found-head, found-tail, found-has, put-found, put-others, put-rising, put-each, taken-found, taken-others, taken-rising, taken-each}
+use Rattle.book.proofs.Files.{Rising, found-below, found-head, found-tail, found-has}
+use Rattle.book.proofs.FilesPut.{put-found, put-others, put-rising, put-each}
+use Rattle.book.proofs.FilesTaken.{taken-found, taken-others, taken-rising, taken-each}
 
 -- ---- another file, or none, for a premise
 abbrev pub Numbered : ℕ → Option File → Type 0

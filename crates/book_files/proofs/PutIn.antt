@@ -10,7 +10,8 @@ use borrow.Author.Tests.{ltb-true, ltb-false, eqb-true, eqb-false}
 use Rattle.lists.specs.Shift.{inserted}
 use Rattle.premise.specs.declared.File.{File}
 use Rattle.book.specs.Book.{fileFor, putIn}
-use Rattle.book.proofs.Files.{found-head, found-tail, put-before, put-after}
+use Rattle.book.proofs.Files.{found-head, found-tail}
+use Rattle.book.proofs.FilesPut.{put-before, put-after}
 use Rattle.book_files.specs.Places.{before}
 use Rattle.book_files.proofs.Before.{further, front}
 

@@ -16,7 +16,8 @@ use Rattle.premise.specs.Promises.{TidyOrNone, Answered}
 use Rattle.book.specs.declared.Book.{Book}
 use Rattle.book.specs.Book.{filesOf, bookOf, fileFor, withFile}
 use Rattle.book.proofs.Keeps.{found-kept}
-use Rattle.book.proofs.Files.{Rising, rises-rising, put-at}
+use Rattle.book.proofs.Files.{Rising, rises-rising}
+use Rattle.book.proofs.FilesPut.{put-at}
 use Rattle.book.proofs.Kept.{count-is}
 use Rattle.book.specs.Laws.{TidyBook}
 use Rattle.book.proofs.Rows.{not-new}

@@ -9,7 +9,8 @@ use Rattle.premise.specs.Orders.{blankFile}
 use Rattle.book.specs.declared.Book.{Book}
 use Rattle.book.specs.Book.{filesOf, fileFor}
 use Rattle.book.specs.Laws.{BookKept}
-use Rattle.book.proofs.Files.{Rising, rises-rising, found-at}
+use Rattle.book.proofs.Files.{Rising, rises-rising}
+use Rattle.book.proofs.FilesPut.{found-at}
 use Rattle.book.proofs.Kept.{count-is}
 use Rattle.book_files.specs.Places.{before}
 use Rattle.book_files.proofs.Tidy.{past, at-file}

@@ -4,3 +4,4 @@ pub mod Over
 pub mod Shift
 pub mod TestLaws
 pub mod SearchLaws
+pub mod Put

@@ -27,7 +27,8 @@ use Rattle.premise_laws.specs.Laws.{Held, mostOfRecord, MarkFew, StepFew
 use Rattle.lists.proofs.TestLaws.{by-test}
 use Rattle.premise.proofs.KeptFiles.{held-with}
 use Rattle.premise_laws.proofs.Room.{held-most, accepted-room}
-use Rattle.premise_laws.proofs.Allowance.{OnlyDays, window-days, Sends, few, sends-two, sends-either, total, pass-few, each-few, atMark, atSettling, atDropping, atTelling, done, settling-most, ticked-few, settled-few, dropped-few, lapsed-few, told-few}
+use Rattle.premise_laws.proofs.Sends.{Sends, few, sends-two, sends-either, total, pass-few, each-few}
+use Rattle.premise_laws.proofs.Allowance.{OnlyDays, window-days, atMark, atSettling, atDropping, atTelling, done, settling-most, ticked-few, settled-few, dropped-few, lapsed-few, told-few}
 
 total-most : (most : Order → ℕ) → ((o : Order) → most o ≤ 2) → (os : List Order) → total most os ≤ 2 * length os
 total-most most h [] = omega arith

@@ -1,25 +1,20 @@
--- Each change of one order leaves it kept: the clock, the four passes of the evaluation, and the record kinds 4 to 9. Every change leaves
--- the reference, K, Q and RD; so what is shown is that the other fields fit the status that it sets. Assumes nothing.
+-- Each change of one order by the clock or the evaluation leaves it kept. Every change leaves the reference, K, Q and RD; so what is shown
+-- is that the other fields fit the status that it sets. Assumes nothing.
 use Prim.Native.Nat.{ℕ, _+_, _≤_}
 use mathlib.Core.Path.{_≡_, refl}
 use mathlib.Core.List.{List}
-use mathlib.Core.Bool.{Bool, true, false, cond, _&&_, _||_, false≢true}
+use mathlib.Core.Bool.{Bool, true, false, _&&_, _||_}
 use native.Mathlib.Omega.{arith}
 use lib.Dec.{eqb, leb}
 use borrow.Author.Tests.{leb-true, le-leb}
 use Rattle.lists.proofs.TestLaws.{by-test}
-use Rattle.days.specs.Days.{isDay}
-use Rattle.records.specs.declared.Record.{Record}
-use Rattle.records.specs.Records.{moveIn, replyAccept}
 use Rattle.premise.specs.declared.Order.{Order}
-use Rattle.premise.specs.declared.File.{File}
-use Rattle.premise.specs.Orders.{inReview, permitPending, scheduled, cancelPending, complete, cancelled, unexecutable, hasStatus, hasKind, businessDays, calendarDays, withWaited, asCancelled}
+use Rattle.premise.specs.Orders.{inReview, permitPending, scheduled, cancelPending, cancelled, unexecutable, hasStatus, businessDays, calendarDays, withWaited, asCancelled}
 use Rattle.premise.specs.Passes.{Change}
 use Rattle.premise.specs.Clock.{mostWaited, longReview, shortReview, mostPending, grown, reviewed, permitAwaited, cancelAwaited, ticked}
 use Rattle.premise.specs.Evaluation.{givesWay, settled, displaced, dropped, overtaken, lapsed, due, told}
-use Rattle.premise.specs.Steps.{onScheduled, onPermit, onUnexecutable, onRead, onCancel, onReply}
 use Rattle.premise.specs.WellKept.{dayFits, permitFits, pendingFits}
-use Rattle.premise_laws.proofs.KeptOrders.{OrderKept, in-status, day-or-none, no-day}
+use Rattle.premise_laws.proofs.KeptOrders.{OrderKept, day-or-none}
 
 -- an order afterwards: kept, with the reference that it had
 pub record Leaves (before after : Order) : Type 0 where
@@ -30,11 +25,11 @@ abbrev pub LeavesBy : Order → Change → Type 0
 LeavesBy o c = Leaves o (c .order)
 
 -- an order with its status and what goes by it set anew
-abbrev anew : Order → ℕ → ℕ → ℕ → ℕ → ℕ → Order
+abbrev pub anew : Order → ℕ → ℕ → ℕ → ℕ → ℕ → Order
 anew o status day waited pending told =
     record { reference = o .reference; kind = o .kind; retailer = o .retailer; requested = o .requested; scheduled = day; status = status; waited = businessDays waited; pending = calendarDays pending; told = told }
 
-leaves : (o : Order) (status day waited pending told : ℕ) → OrderKept o
+pub leaves : (o : Order) (status day waited pending told : ℕ) → OrderKept o
     → (leb inReview status && leb status unexecutable) ≡ true → dayFits (anew o status day waited pending told) ≡ true
     → permitFits (anew o status day waited pending told) ≡ true → leb waited mostWaited ≡ true
     → pendingFits (anew o status day waited pending told) ≡ true → leb told 1 ≡ true → Leaves o (anew o status day waited pending told)
@@ -55,14 +50,14 @@ module _ (o : Order) (k : OrderKept o) where
   leaves-waited waited h = leaves o (o .status) (o .scheduled) waited (o .pending .0) (o .told) k (k .status) (k .scheduled) (k .permit) (le-leb waited mostWaited h) (k .pending) (k .told)
 
   -- Cancelled, W 0
-  leaves-cancelled : Leaves o (asCancelled o)
+  pub leaves-cancelled : Leaves o (asCancelled o)
   leaves-cancelled = leaves o cancelled (o .scheduled) (o .waited .0) 0 (o .told) k refl (day-or-none o k) refl (k .waited) refl (k .told)
 
   -- Cancel Pending, W 0, with N grown
-  leaves-cancelling : (waited : ℕ) → waited ≤ mostWaited → Leaves o (anew o cancelPending (o .scheduled) waited 0 (o .told))
+  pub leaves-cancelling : (waited : ℕ) → waited ≤ mostWaited → Leaves o (anew o cancelPending (o .scheduled) waited 0 (o .told))
   leaves-cancelling waited h = leaves o cancelPending (o .scheduled) waited 0 (o .told) k refl (day-or-none o k) refl (le-leb waited mostWaited h) refl (k .told)
 
-  waited-most : o .waited .0 ≤ mostWaited
+  pub waited-most : o .waited .0 ≤ mostWaited
   waited-most = leb-true (o .waited .0) mostWaited (k .waited)
 
   grown-most : (counts : Bool) → grown counts o ≤ mostWaited
@@ -121,48 +116,3 @@ module _ (near : ℕ → Bool) (today premise retailer : ℕ) (os : List Order) 
       by-test (LeavesBy o) (due near o) _ _
       (λ q. leaves o (o .status) (o .scheduled) (o .waited .0) (o .pending .0) 1 k (k .status) (k .scheduled) (k .permit) (k .waited) (k .pending) refl)
       (λ q. leaves-same o k)
-
--- ---- the record kinds that name an order
-module _ (f : File) (r : Record) (o : Order) (k : OrderKept o) where
-  pub leaves-scheduled : isDay (r .day) ≡ true → Leaves o (onScheduled f r o .order)
-  unfolding onScheduled
-  leaves-scheduled d = leaves o scheduled (r .day) (o .waited .0) 0 (o .told) k refl d refl (k .waited) refl (k .told)
-
-  -- from In Review, where SD is none and W 0; a move in
-  pub leaves-permit : hasKind moveIn o ≡ true → hasStatus inReview o ≡ true → Leaves o (onPermit f r o .order)
-  unfolding onPermit
-  leaves-permit m e =
-      let before = in-status inReview o e k in
-      leaves o permitPending (o .scheduled) 0 (o .pending .0) (o .told) k refl (before .scheduled) m refl (before .pending) (k .told)
-
-  pub leaves-unexecutable : Leaves o (onUnexecutable f r o .order)
-  unfolding onUnexecutable
-  leaves-unexecutable = leaves o unexecutable (o .scheduled) (o .waited .0) 0 (o .told) k refl (day-or-none o k) refl (k .waited) refl (k .told)
-
-  -- from Scheduled, where W is 0; or from Permit Pending, where SD is none too
-  pub leaves-read : isDay (r .day) ≡ true → (hasStatus scheduled o || hasStatus permitPending o) ≡ true → Leaves o (onRead f r o .order)
-  unfolding onRead
-  leaves-read d h = go (hasStatus scheduled o) (hasStatus permitPending o) refl refl h
-    where
-      go : (a b : Bool) → hasStatus scheduled o ≡ a → hasStatus permitPending o ≡ b → (a || b) ≡ true
-          → Leaves o (cond a (anew o complete (r .day) (o .waited .0) (o .pending .0) (o .told)) (anew o inReview (o .scheduled) (o .waited .0) (o .pending .0) (o .told)))
-      go true b e q t =
-          let before = in-status scheduled o e k in
-          leaves o complete (r .day) (o .waited .0) (o .pending .0) (o .told) k refl d refl (k .waited) (before .pending) (k .told)
-      go false true e q t =
-          let before = in-status permitPending o q k in
-          leaves o inReview (o .scheduled) (o .waited .0) (o .pending .0) (o .told) k refl (before .scheduled) refl (k .waited) (before .pending) (k .told)
-      go false false e q t = absurd (false≢true t)
-
-  pub leaves-cancel : Leaves o (onCancel f r o .order)
-  unfolding onCancel
-  leaves-cancel = leaves-cancelling o k (o .waited .0) (waited-most o k)
-
-  -- rejected: Scheduled if SD is a day, else In Review, and then SD is none
-  leaves-rejected : (b : Bool) → isDay (o .scheduled) ≡ b → Leaves o (anew o (cond b scheduled inReview) (o .scheduled) (o .waited .0) 0 (o .told))
-  leaves-rejected true e = leaves o scheduled (o .scheduled) (o .waited .0) 0 (o .told) k refl e refl (k .waited) refl (k .told)
-  leaves-rejected false e = leaves o inReview (o .scheduled) (o .waited .0) 0 (o .told) k refl (no-day o k e) refl (k .waited) refl (k .told)
-
-  pub leaves-reply : Leaves o (onReply f r o .order)
-  unfolding onReply
-  leaves-reply = by-test (LeavesBy o) (eqb (r .detail) replyAccept) _ _ (λ q. leaves-cancelled o k) (λ q. leaves-rejected (isDay (o .scheduled)) refl)

@@ -23,7 +23,8 @@ use Rattle.premise.specs.Refusals.{namesOrder}
 use Rattle.premise.specs.OnePremise.{atPlace}
 use Rattle.premise_laws.specs.Laws.{KeptFor}
 use Rattle.premise_laws.proofs.KeptOrders.{OrderKept, orders-facts}
-use Rattle.premise_laws.proofs.KeptChanges.{Leaves, LeavesBy, leaves-scheduled, leaves-permit, leaves-unexecutable, leaves-read, leaves-cancel, leaves-reply}
+use Rattle.premise_laws.proofs.KeptChanges.{Leaves, LeavesBy}
+use Rattle.premise_laws.proofs.KeptKinds.{leaves-scheduled, leaves-permit, leaves-unexecutable, leaves-read, leaves-cancel, leaves-reply}
 use Rattle.premise_laws.proofs.KeptReferences.{hasReference}
 use Rattle.premise_laws.proofs.KeptPasses.{LeavesAll, HeaderKept, header-of, kept-after}
 use Rattle.premise_laws.proofs.KeptRecords.{scheduled-fits, read-fits}

@@ -1,5 +1,6 @@
 pub mod KeptOrders
 pub mod KeptChanges
+pub mod KeptKinds
 pub mod KeptReferences
 pub mod KeptPasses
 pub mod KeptRecords
@@ -9,5 +10,6 @@ pub mod KeptSteps
 pub mod Tests
 pub mod Notices
 pub mod Room
+pub mod Sends
 pub mod Allowance
 pub mod Few

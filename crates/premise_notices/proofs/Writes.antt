@@ -1,35 +1,33 @@
 -- Laws of `Writes`: notices written one lot after another, each behind those that stand in the buffer. Assumes nothing.
-use Prim.Native.Nat.{ℕ, _+_, _*_, _-_}
+use Prim.Native.Nat.{ℕ, _+_, _*_, _-_, _≤_}
 use mathlib.Core.Path.{_≡_, refl, sym, ap, ap₂, _∙_}
 use mathlib.Core.List.{List, [], _∷_, _++_, append-assoc, append-nil}
 use native.Mathlib.Omega.{arith}
-use lib.ListN.{length, take, drop, length-append, length-drop, take-append-drop, drop-of-length-le}
-use lib.Seq.{take-all, take-at, drop-at, drop-drop, length-take-le}
+use lib.ListN.{length, take, drop, length-append, length-drop, drop-of-length-le}
+use lib.Seq.{take-all, drop-drop}
+use Rattle.lists.specs.Put.{putAt}
+use Rattle.lists.proofs.Put.{put-none, length-put, put-put}
 use Rattle.records.specs.declared.Notice.{Notice}
 use Rattle.records.specs.Layout.{recordLength}
 use Rattle.records.specs.Notices.{encode, encodeAll}
 use Rattle.records.proofs.Notices.{length-encodeAll, encodeAll-append}
 use Rattle.premise.specs.Promises.{Room, Writes}
 
+-- notices written are their bytes put from where the others end
+as-put : (standing : ℕ) (b : List ℕ) (xs : List Notice)
+    → take (recordLength * standing) b ++ encodeAll xs ++ drop (recordLength * (standing + length xs)) b ≡ putAt (recordLength * standing) (encodeAll xs) b
+as-put standing b xs =
+    let e : recordLength * (standing + length xs) ≡ recordLength * standing + length (encodeAll xs) = omega (arith, length-encodeAll xs) in
+    ap (λ (n : ℕ). take (recordLength * standing) b ++ encodeAll xs ++ drop n b) e
+
 -- nothing written
 pub writes-none : (standing : ℕ) (b : List ℕ) → Writes standing b b standing []
-writes-none standing b =
-    let e : recordLength * (standing + 0) ≡ recordLength * standing = omega arith in
-    record {
-      count = omega arith;
-      bytes = sym (ap (λ (n : ℕ). take (recordLength * standing) b ++ [] ++ drop n b) e ∙ ap (λ (l : List ℕ). l ++ drop (recordLength * standing) b) (append-nil (take (recordLength * standing) b)) ∙ take-append-drop (recordLength * standing) b);
-    }
+writes-none standing b = record { count = omega arith; bytes = sym (as-put standing b [] ∙ put-none (recordLength * standing) b) }
 
+-- the buffer keeps its length
 module _ (standing : ℕ) (b : List ℕ) (xs : List Notice) (room : Room standing xs b) where
-  -- what stands in front of the rest, by length
-  front : length (take (recordLength * standing) b ++ encodeAll xs) ≡ recordLength * (standing + length xs)
-  front = length-append (take (recordLength * standing) b) (encodeAll xs) ∙ omega (arith, length-take-le (recordLength * standing) b (omega arith), length-encodeAll xs)
-
-  -- the buffer keeps its length
   pub writes-length : (c : List ℕ) (n : ℕ) → Writes standing b c n xs → length c ≡ length b
-  writes-length c n w =
-      ap length (w .bytes) ∙ length-append (take (recordLength * standing) b ++ encodeAll xs) (drop (recordLength * (standing + length xs)) b)
-      ∙ omega (arith, front, length-drop (recordLength * (standing + length xs)) b)
+  writes-length c n w = ap length (w .bytes ∙ as-put standing b xs) ∙ length-put (recordLength * standing) (encodeAll xs) b (omega (arith, length-encodeAll xs))
 
 -- one lot after another
 module _ (standing : ℕ) (b : List ℕ) (xs ys : List Notice) (room : Room standing (xs ++ ys) b) where
@@ -42,24 +40,18 @@ module _ (standing : ℕ) (b : List ℕ) (xs ys : List Notice) (room : Room stan
 
     pub writes-then : (d : List ℕ) (n : ℕ) → Writes m c d n ys → Writes standing b d n (xs ++ ys)
     writes-then d n v =
-        let p = take (recordLength * standing) b ++ encodeAll xs in
-        let k : length p ≡ recordLength * m = front standing b xs room-first ∙ omega (arith, w .count) in
-        let t : take (recordLength * m) c ≡ p =
-        ap (take (recordLength * m)) (w .bytes) ∙ take-at p (drop (recordLength * (standing + length xs)) b) (recordLength * m) k in
-        let split : recordLength * (m + length ys) ≡ recordLength * m + recordLength * length ys = omega arith in
-        let joined : recordLength * (standing + length xs) + recordLength * length ys ≡ recordLength * (standing + length (xs ++ ys)) = omega (arith, length-append xs ys) in
-        let u : drop (recordLength * (m + length ys)) c ≡ drop (recordLength * (standing + length (xs ++ ys))) b =
-        ap (λ (i : ℕ). drop i c) split ∙ sym (drop-drop (recordLength * length ys) (recordLength * m) c)
-        ∙ ap (drop (recordLength * length ys)) (ap (drop (recordLength * m)) (w .bytes) ∙ drop-at p (drop (recordLength * (standing + length xs)) b) (recordLength * m) k)
-        ∙ drop-drop (recordLength * length ys) (recordLength * (standing + length xs)) b
-        ∙ ap (λ (i : ℕ). drop i b) joined in
+        let at = recordLength * standing in
+        let stop : recordLength * m ≡ at + length (encodeAll xs) = omega (arith, w .count, length-encodeAll xs) in
+        let joined : encodeAll (xs ++ ys) ≡ encodeAll xs ++ encodeAll ys = encodeAll-append xs ys in
+        let space : at + length (encodeAll xs ++ encodeAll ys) ≤ length b =
+        omega (arith, length-append (encodeAll xs) (encodeAll ys), length-encodeAll xs, length-encodeAll ys, length-append xs ys) in
         record {
           count = omega (arith, v .count, w .count, length-append xs ys);
           bytes =
-              v .bytes
-              ∙ ap₂ (λ (l r : List ℕ). l ++ encodeAll ys ++ r) t u
-              ∙ ap (λ (l : List ℕ). l ++ drop (recordLength * (standing + length (xs ++ ys))) b)
-              (append-assoc (take (recordLength * standing) b) (encodeAll xs) (encodeAll ys) ∙ ap (λ (l : List ℕ). take (recordLength * standing) b ++ l) (sym (encodeAll-append xs ys)));
+              v .bytes ∙ as-put m c ys
+              ∙ ap₂ (λ (i : ℕ) (l : List ℕ). putAt i (encodeAll ys) l) stop (w .bytes ∙ as-put standing b xs)
+              ∙ put-put at (encodeAll xs) (encodeAll ys) b space
+              ∙ sym (as-put standing b (xs ++ ys) ∙ ap (λ (l : List ℕ). putAt at l b) joined);
         }
 
 -- one notice, written to the part of the buffer from where the others end

@@ -1,21 +1,18 @@
 -- Laws of `Puts`: texts put one after another, each behind what stands in the buffer, or a byte put before one. Assumes nothing.
 use Prim.Native.Nat.{ℕ, suc, _+_, _≤_, _<_}
 use mathlib.Core.Path.{_≡_, sym, ap, ap₂, _∙_}
-use mathlib.Core.List.{List, [], _∷_, _++_, append-assoc, append-nil}
+use mathlib.Core.List.{List, [], _∷_, _++_, append-assoc}
 use native.Mathlib.Numerals.{add-one}
 use native.Mathlib.Omega.{arith}
-use lib.ListN.{length, take, drop, set, length-append, length-drop, take-append-drop}
-use lib.Seq.{take-at, drop-at, drop-drop, take-take, take-append-le, set-split, length-take-le}
+use lib.ListN.{length, take, drop, set, length-append}
+use lib.Seq.{drop-at, take-take, take-append-le, set-split, length-take-le}
+use Rattle.lists.specs.Put.{putAt}
+use Rattle.lists.proofs.Put.{put-none, length-put, put-put}
 use Rattle.tape_numbers.specs.Numbers.{Puts}
 
 -- nothing put
 pub puts-none : (start : ℕ) (b : List ℕ) → Puts start b b start []
-puts-none start b =
-    let e : start + 0 ≡ start = omega arith in
-    record {
-      end = omega arith;
-      bytes = sym (ap (λ (n : ℕ). take start b ++ [] ++ drop n b) e ∙ ap (λ (l : List ℕ). l ++ drop start b) (append-nil (take start b)) ∙ take-append-drop start b);
-    }
+puts-none start b = record { end = omega arith; bytes = sym (put-none start b) }
 
 -- the same text by another name
 pub puts-as : {start stop : ℕ} {b c xs ys : List ℕ} → xs ≡ ys → Puts start b c stop xs → Puts start b c stop ys
@@ -24,14 +21,9 @@ puts-as e p = rw e at p
 pub room-as : (start : ℕ) (b : List ℕ) {xs ys : List ℕ} → xs ≡ ys → start + length ys ≤ length b → start + length xs ≤ length b
 room-as start b e room = rw e room
 
--- what stands in front of the rest, by length
-front : (start : ℕ) (b xs : List ℕ) → start + length xs ≤ length b → length (take start b ++ xs) ≡ start + length xs
-front start b xs room = length-append (take start b) xs ∙ omega (arith, length-take-le start b (omega arith))
-
 -- the buffer keeps its length
 pub puts-length : {start stop : ℕ} {b c xs : List ℕ} → Puts start b c stop xs → start + length xs ≤ length b → length c ≡ length b
-puts-length {start} {stop} {b} {c} {xs} p room =
-    ap length (p .bytes) ∙ length-append (take start b ++ xs) (drop (start + length xs) b) ∙ omega (arith, front start b xs room, length-drop (start + length xs) b)
+puts-length {start} {stop} {b} {c} {xs} p room = ap length (p .bytes) ∙ length-put start xs b room
 
 -- a byte put just before a text
 pub puts-before : {at stop : ℕ} {b c xs : List ℕ} (x : ℕ) → Puts (at + 1) b c stop xs → at + 1 + length xs ≤ length b → Puts at b (set c at x) stop (x ∷ xs)
@@ -67,22 +59,9 @@ module _ {start m : ℕ} {b c xs : List ℕ} (p : Puts start b c m xs) where
 
   pub puts-then : {n : ℕ} {d ys : List ℕ} → Puts m c d n ys → start + length (xs ++ ys) ≤ length b → Puts start b d n (xs ++ ys)
   puts-then {n} {d} {ys} q room =
-      let before = take start b ++ xs in
-      let k : length before ≡ m = front start b xs (room-first start b xs ys room) ∙ sym (p .end) in
-      let rest = drop (start + length xs) b in
-      let t : take m c ≡ before = ap (take m) (p .bytes) ∙ take-at before rest m k in
-      let joined : start + length xs + length ys ≡ start + length (xs ++ ys) = omega (arith, length-append xs ys) in
-      let u : drop (m + length ys) c ≡ drop (start + length (xs ++ ys)) b =
-      sym (drop-drop (length ys) m c)
-      ∙ ap (drop (length ys)) (ap (drop m) (p .bytes) ∙ drop-at before rest m k)
-      ∙ drop-drop (length ys) (start + length xs) b
-      ∙ ap (λ (i : ℕ). drop i b) joined in
       record {
         end = omega (arith, q .end, p .end, length-append xs ys);
-        bytes =
-            q .bytes
-            ∙ ap₂ (λ (l r : List ℕ). l ++ ys ++ r) t u
-            ∙ ap (λ (l : List ℕ). l ++ drop (start + length (xs ++ ys)) b) (append-assoc (take start b) xs ys);
+        bytes = q .bytes ∙ ap₂ (λ (at : ℕ) (l : List ℕ). putAt at ys l) (p .end) (p .bytes) ∙ put-put start xs ys b room;
       }
 
 -- a byte, and a text behind it

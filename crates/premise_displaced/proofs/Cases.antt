@@ -1,14 +1,25 @@
--- Which case of the definition of a displaced drop holds, by what the order says by itself. Assumes nothing.
+-- Which case of the definitions of a switch for a day and of a displaced drop holds, by the tests that led there. Assumes nothing.
 use Prim.Native.Nat.{ℕ}
 use mathlib.Core.Path.{_≡_, sym, ap}
 use mathlib.Core.List.{List}
 use mathlib.Core.Bool.{Bool, true, false, not, _&&_}
-use borrow.Author.Tests.{not-true, not-false}
+use lib.Dec.{eqb}
+use borrow.Author.Tests.{eq-eqb, ne-eqb, not-true, not-false}
 use Rattle.lists.specs.Search.{anyOf}
 use Rattle.records.specs.Records.{massTransitionDrop}
 use Rattle.premise.specs.declared.Order.{Order}
-use Rattle.premise.specs.Orders.{scheduled, hasStatus, hasKind}
+use Rattle.premise.specs.Orders.{scheduled, hasStatus, hasKind, isSwitch}
 use Rattle.premise.specs.Evaluation.{switchOn, displaced}
+
+module _ (day : ℕ) (o : Order) where
+  pub switch-other : isSwitch o ≡ false → false ≡ switchOn day o
+  switch-other e = simp e
+
+  pub switch-idle : isSwitch o ≡ true → (o .status ≡ scheduled → ⊥) → false ≡ switchOn day o
+  switch-idle e d = simp (e, ne-eqb (o .status) scheduled d)
+
+  pub switch-day : isSwitch o ≡ true → o .status ≡ scheduled → eqb (o .scheduled) day ≡ switchOn day o
+  switch-day e d = simp (e, eq-eqb (o .status) scheduled d)
 
 -- a Scheduled drop in window
 abbrev pub isNearDrop : (ℕ → Bool) → Order → Bool

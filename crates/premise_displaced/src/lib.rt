@@ -8,11 +8,17 @@ ghost use Rattle.premise.specs.WellKept.{Tidy};
 use premise::File;
 use premise::Order;
 
-// Whether an order is a Scheduled switch for a day.
+// Whether an order is a Scheduled switch for a day. Few orders are: each test spares the next.
 fn is_switch_on(day: u16, o: Order) -> bool
     ensures { λ r. ⌜ r ≡ switchOn day o ⌝ }
 {
-    premise_order_tests::is_switch(o) & (o.status == premise::SCHEDULED) & (o.scheduled == day)
+    if !premise_order_tests::is_switch(o) {
+        return false;
+    }
+    if o.status != premise::SCHEDULED {
+        return false;
+    }
+    o.scheduled == day
 }
 
 // Whether a file has a Scheduled switch for a day.

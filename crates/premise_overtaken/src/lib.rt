@@ -7,14 +7,20 @@ ghost use Rattle.premise.specs.WellKept.{Tidy};
 use premise::File;
 use premise::Order;
 
-// Whether an order is a Scheduled move in whose day has come, requested for after another day.
+// Whether an order is a Scheduled move in whose day has come, requested for after another day. Few orders are: each test spares the next.
 fn is_overtaking(today: u16, requested: u16, o: Order) -> bool
     ensures { λ r. ⌜ r ≡ overtakes today requested o ⌝ }
 {
-    (o.kind == records::order_kind::MOVE_IN)
-        & (o.status == premise::SCHEDULED)
-        & (o.scheduled <= today)
-        & (requested < o.requested)
+    if o.kind != records::order_kind::MOVE_IN {
+        return false;
+    }
+    if o.status != premise::SCHEDULED {
+        return false;
+    }
+    if today < o.scheduled {
+        return false;
+    }
+    requested < o.requested
 }
 
 // Whether a file has such a move in.

@@ -1,9 +1,8 @@
--- `premise_displaced::is_switch_on` meets its contract: its tests are those of the definition, in its order. Assumes nothing.
-use mathlib.Core.Path.{ap}
-use mathlib.Core.Bool.{Bool, _&&_}
-use lib.Dec.{eqb}
+-- `premise_displaced::is_switch_on` meets its contract: at each return the tests that led there pick the case of `switchOn`. Assumes nothing.
+use mathlib.Core.Path.{sym, _∙_}
 use borrow.Author.Needs.{needs}
-use Rattle.premise.specs.Orders.{scheduled, hasStatus}
+use borrow.Author.Tests.{not-true, not-false}
+use Rattle.premise_displaced.proofs.Cases.{switch-other, switch-idle, switch-day}
 use Rattle.premise_displaced.proofs.is_switch_on.Statement.{statement}
 use Rattle.premise_displaced.proofs.is_switch_on.Tie as tie
 
@@ -12,9 +11,18 @@ is-switch-requires c κs = search needs
 
 returns : tie.Need-returns
 returns c =
-    let k = c .before .before in
-    let a = k .before .args in
-    ap (λ (switch : Bool). switch && hasStatus scheduled (a .o) && eqb (a .o .scheduled) (a .day)) (k .is-switch .ensures)
+    let a = c .before .before .args in
+    switch-other (a .day) (a .o) (sym (c .before .is-switch .ensures) ∙ not-true _ (c .if1 .taken))
+
+returns-2 : tie.Need-returns-2
+returns-2 c =
+    let a = c .before .before .before .before .args in
+    switch-idle (a .day) (a .o) (sym (c .before .before .before .is-switch .ensures) ∙ not-false _ (c .before .before .if1 .left)) (c .if2 .taken)
+
+returns-3 : tie.Need-returns-3
+returns-3 c =
+    let a = c .before .before .before .before .before .args in
+    switch-day (a .day) (a .o) (sym (c .before .before .before .before .is-switch .ensures) ∙ not-false _ (c .before .before .before .if1 .left)) (c .before .if2 .left)
 
 pub is-switch-on-spec : {M : Type 1} → statement M
-is-switch-on-spec = tie.close (tie.spec is-switch-requires returns)
+is-switch-on-spec = tie.close (tie.spec is-switch-requires returns returns-2 returns-3)

@@ -1,9 +1,10 @@
 -- `tape_input::read_up_to` meets its contract. The loop's invariant: the buffer keeps its length, and what was read stands within it. The
 -- measure is the room left. Assumes nothing.
 use Prim.Native.Nat.{_-_, _≤_}
-use mathlib.Core.Path.{_≡_}
+use mathlib.Core.Path.{_≡_, refl}
 use lib.ListN.{length}
 use borrow.Author.Needs.{needs}
+use native.Mathlib.Omega.{arith}
 use Rattle.tape_input.proofs.read_up_to.Statement.{statement}
 use Rattle.tape_input.proofs.read_up_to.Tie as tie
 
@@ -14,7 +15,7 @@ abbrev μ-loop : tie.MeasureT-loop
 μ-loop fd buffer₀ done₀ buffer done = length buffer₀ - done
 
 loop-holds : tie.Need-loop-holds Inv-loop μ-loop
-loop-holds c = search needs
+loop-holds c = (refl, omega arith)
 
 read-on-requires : tie.Need-read-on-requires Inv-loop μ-loop
 read-on-requires c κs = search needs
@@ -29,7 +30,7 @@ add-done : tie.Need-add-done Inv-loop μ-loop
 add-done c = search needs
 
 loop-less : tie.Need-loop-less Inv-loop μ-loop
-loop-less c = search needs
+loop-less c = omega arith
 
 loop-again : tie.Need-loop-again Inv-loop μ-loop
 loop-again c = search needs

@@ -8,6 +8,7 @@ pub mod KeptNew
 pub mod KeptNamed
 pub mod KeptSteps
 pub mod Tests
+pub mod Says
 pub mod Notices
 pub mod Room
 pub mod Sends

@@ -1,7 +1,7 @@
--- Every notice carries the premise's number: each is made with it, and passes only join lists of notices. Assumes nothing.
-use Prim.Native.Nat.{ℕ, suc}
-use mathlib.Core.Path.{_≡_, refl, subst}
-use mathlib.Core.List.{List, [], _∷_}
+-- Every notice carries the premise's number: each step makes its notices with it. Assumes nothing.
+use Prim.Native.Nat.{ℕ}
+use mathlib.Core.Path.{_≡_, refl}
+use mathlib.Core.List.{List}
 use mathlib.Core.Option.{Option, none, some}
 use mathlib.Core.Bool.{Bool, true, false, cond}
 use Rattle.lists.specs.Search.{Each}
@@ -10,64 +10,20 @@ use Rattle.lists.specs.declared.Found.the-variants.{At, Nothing}
 use Rattle.days.specs.Days.{isBusinessDay}
 use Rattle.days.specs.Window.{windowWidth, inWindow}
 use Rattle.records.specs.declared.Record.{Record}
-use Rattle.records.specs.declared.Notice.{Notice}
 use Rattle.records.specs.Records.{kindCreate, kindRetire, kindNewOrder, kindDayMark}
 use Rattle.premise.specs.declared.Order.{Order}
 use Rattle.premise.specs.declared.File.{File}
 use Rattle.premise.specs.Orders.{held}
-use Rattle.premise.specs.Passes.{Change, Outcome, Effect, passFrom, andThen, onFile}
+use Rattle.premise.specs.Passes.{Outcome, Effect, andThen, onFile}
 use Rattle.premise.specs.Steps.{is, named, supplied, ordered, changed, onOrder, onScheduled, onPermit, onUnexecutable, onRead, onCancel, onReply}
 use Rattle.premise.specs.Clock.{clock, ticked, reviewed, permitAwaited, cancelAwaited}
 use Rattle.premise.specs.Evaluation.{settle, settled, dropDrops, dropped, lapse, lapsed, tell, told, evaluation, evaluated}
 use Rattle.premise.specs.Refusals.{firstRow, rows}
-use Rattle.premise.specs.OnePremise.{Given, effectOn, atPlace, followed, marked, stepped, step}
+use Rattle.premise.specs.OnePremise.{Given, effectOn, atPlace, marked, stepped, step}
 use Rattle.premise_laws.specs.Laws.{Held, Of, StepNotices, MarkNotices}
 use Rattle.lists.proofs.TestLaws.{by-test}
-use Rattle.lists.proofs.SearchLaws.{each-append}
 use Rattle.premise.proofs.Answers.{either}
-
-module _ (P : Notice → Type 0) where
-  pub each-pass : (g : ℕ → Order → Change) → ((i : ℕ) (o : Order) → Each P (g i o .notices)) → (i : ℕ) (os : List Order) → Each P (passFrom g i os .notices)
-  each-pass g h i [] = tt
-  each-pass g h i (o ∷ os) = each-append P (g i o .notices) (passFrom g (suc i) os .notices) (h i o) (each-pass g h (suc i) os)
-
-  pub each-then : (first : Outcome) (next : List Order → Outcome) → Each P (first .notices) → ((os : List Order) → Each P (next os .notices)) → Each P (andThen first next .notices)
-  each-then first next h k = each-append P (first .notices) (next (first .orders) .notices) h (k (first .orders))
-
-  pub each-followed : (first : Effect) (next : File → Effect) → Each P (first .notices) → Each P (next (first .file) .notices) → Each P (followed first next .notices)
-  each-followed first next h k = each-append P (first .notices) (next (first .file) .notices) h k
-
--- ---- of a premise
-of-same : {p q : ℕ} (ns : List Notice) → p ≡ q → Each (Of p) ns → Each (Of q) ns
-of-same ns e h = subst (λ (n : ℕ). Each (Of n) ns) e h
-
--- the same as records, so that a search can go by their shapes: all notices of a list, and those of a change
-record Says (premise : ℕ) (ns : List Notice) : Type 0 where
-  all : Each (Of premise) ns
-
-record Speaks (premise : ℕ) (c : Change) : Type 0 where
-  all : Each (Of premise) (c .notices)
-
--- how lists of notices and changes are made, whatever is tested
-module _ {premise : ℕ} where
-  says-none : Says premise []
-  says-none = record { all = tt }
-
-  says-more : {n : Notice} {ns : List Notice} → n .premise ≡ premise → Says premise ns → Says premise (n ∷ ns)
-  says-more e h = record { all = (e, h .all) }
-
-  says-either : (b : Bool) {xs ys : List Notice} → Says premise xs → Says premise ys → Says premise (cond b xs ys)
-  says-either true h k = h
-  says-either false h k = k
-
-  speaks-change : {o : Order} {ns : List Notice} → Says premise ns → Speaks premise (record { order = o; notices = ns })
-  speaks-change h = record { all = h .all }
-
-  speaks-either : (b : Bool) {x y : Change} → Speaks premise x → Speaks premise y → Speaks premise (cond b x y)
-  speaks-either true h k = h
-  speaks-either false h k = k
-
-ruleset speaking = (says-none, says-more, says-either, speaks-change, speaks-either)
+use Rattle.premise_laws.proofs.Says.{each-pass, each-then, each-followed, of-same, Speaks, speaking}
 
 -- ---- each step speaks of the premise
 module _ (premise : ℕ) where

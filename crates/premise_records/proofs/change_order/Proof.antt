@@ -2,7 +2,7 @@
 -- hears of it too. Assumes nothing.
 use borrow.Author.Needs.{needs}
 use Rattle.premise_changes.proofs.Done.{done-case, done-none}
-use Rattle.premise_records.proofs.Cases.{on-read, told-once, told-twice, first-room, second-room, done-both}
+use Rattle.premise_records.proofs.Told.{on-read, told-once, told-twice, first-room, second-room, done-both}
 use Rattle.premise_records.proofs.change_order.Statement.{statement}
 use Rattle.premise_records.proofs.change_order.Tie as tie
 

@@ -1,6 +1,6 @@
 // The premise layer: one premise, its file and its orders. Here stand its types; the rules over them stand in specs/, section by
-// section from document 01, and what the layer above may rely on is stated in specs/Laws.antt. The helper crates of the layer,
-// `premise_notices` to `premise_steps`, do in code what the rules say. The layer above calls `record_bytes::read_record`,
+// section from document 01, and what the layer above may rely on is stated in specs/Laws.antt, and of its steps in `premise_laws`. The helper
+// crates of the layer, `premise_notices` to `premise_steps`, do in code what the rules say. The layer above calls `record_bytes::read_record`,
 // `premise_kept::file_kept`, `premise_unused::file_blank`, `premise_files::blank_file`, `premise_steps::on_record`, `premise_marks::mark` and
 // `premise_quiet::is_touched`; everything else is inner.
 

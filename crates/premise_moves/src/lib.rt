@@ -3,7 +3,7 @@ ghost use mathlib.Core.Path.{_≡_};
 ghost use Rattle.premise_moves.specs.Moves.{moves};
 use premise::Order;
 
-// Whether the clock changes an order. Most it leaves as they are, and the caller then has nothing to do.
+// Asked before the clock: most orders it leaves as they are, and the caller then neither copies nor stores one.
 pub fn is_moving(business: bool, today: u16, o: Order) -> bool
     ensures { λ r. ⌜ r ≡ moves business today o ⌝ }
 {

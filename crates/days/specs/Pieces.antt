@@ -32,7 +32,7 @@ pieces =
     switches-on (allBusiness 20 ++ (2 ∷ 2 ∷ 1 ∷ [])) 20 22
     -- d, at the ends of the calendar: the last day is offered; past the calendar, and from no day on, there is no date
     ∷ switches-on (allBusiness 4096) 4095 4095
-    ∷ switches-on (allBusiness 20) 20 noDay
+    ∷ switches-on (allBusiness 20) 4090 noDay
     ∷ switches-on (allBusiness 5000) 4096 noDay
     -- i. T 10: SD 12 is in window, 13 not.
     ∷ in-window (allBusiness 20) 10 12 true

@@ -201,7 +201,7 @@ eight =
     ∷ order massTransitionDrop 5 5 202 ∷ order massTransitionDrop 5 6 202 ∷ order massTransitionDrop 5 7 202 ∷ order massTransitionDrop 5 8 202
     ∷ []
 
--- an order of a kind Scheduled for 40; then new ones for 40: a move in, a move out, a standard switch, a self-selected switch, a drop
+-- on 40 an order of a kind Scheduled for that day; then new ones for it: a move in, a move out, a standard switch, a self-selected switch, a drop
 abbrev against : ℕ → ℕ → List Record
 against kind day =
     create 0 101
@@ -209,9 +209,9 @@ against kind day =
     ∷ order moveIn 40 2 203 ∷ order moveOut 40 3 203 ∷ order standardSwitch 0 4 203 ∷ order selfSelectedSwitch 40 5 203 ∷ order massTransitionDrop 40 6 203
     ∷ []
 
--- days of kind 2 from 30 to 39, so that from 30 the switch date is 40
-abbrev closedTo40 : List ℕ
-closedTo40 = business 30 ++ replicate 10 2 ++ business 20
+-- days of kind 2 from 38 up to one before a day: from 38 that day is the switch date
+abbrev closed : ℕ → List ℕ
+closed many = business 38 ++ replicate many 2 ++ business 10
 
 -- a move in that arrives on 50 for that day
 abbrev arrives : List Record
@@ -244,13 +244,14 @@ standing kind status for waited pending =
       told = 0;
     }
 
--- three switches scheduled for 30; on 25 the oldest is cancelled by its retailer and waits for the reply
+-- on 25 three switches scheduled for 30; the oldest is cancelled by its retailer and waits for the reply
 abbrev threeSwitches : List Record
 threeSwitches =
     create 0 101
     ∷ order selfSelectedSwitch 20 1 202 ∷ order selfSelectedSwitch 20 2 203 ∷ order selfSelectedSwitch 20 3 204
     ∷ schedule 1 30 ∷ schedule 2 30 ∷ schedule 3 30
-    ∷ marks 15 11 ++ (cancel 1 202 ∷ [])
+    ∷ cancel 1 202
+    ∷ []
 
 -- a permit pending for one day, and a move in requested for another and scheduled for a third
 abbrev twoMoveIns : ℕ → ℕ → ℕ → List Record
@@ -287,20 +288,18 @@ pieces =
     (create 0 101 ∷ order moveIn 40 1 202 ∷ schedule 1 40 ∷ cancel 1 202 ∷ order moveIn 40 2 203 ∷ [])
     (0 ∷ 0 ∷ 0 ∷ 0 ∷ 0 ∷ [])
     -- b, table 11.1 row by row; the standard switch meets one of its own kind by the line below the table
-    ∷ answered closedTo40 30 (against moveIn 40) (0 ∷ 0 ∷ 0 ∷ 11 ∷ 0 ∷ 0 ∷ 11 ∷ 0 ∷ [])
-    ∷ answered closedTo40 30 (against moveOut 40) (0 ∷ 0 ∷ 0 ∷ 0 ∷ 11 ∷ 0 ∷ 11 ∷ 0 ∷ [])
-    ∷ answered closedTo40 30 (against standardSwitch 0) (0 ∷ 0 ∷ 0 ∷ 0 ∷ 0 ∷ 11 ∷ 11 ∷ 0 ∷ [])
-    ∷ answered closedTo40 30 (against selfSelectedSwitch 40) (0 ∷ 0 ∷ 0 ∷ 0 ∷ 0 ∷ 0 ∷ 11 ∷ 0 ∷ [])
-    ∷ answered closedTo40 30 (against massTransitionDrop 40) (0 ∷ 0 ∷ 0 ∷ 0 ∷ 0 ∷ 0 ∷ 0 ∷ 0 ∷ [])
+    ∷ answered (business 50) 40 (against moveIn 40) (0 ∷ 0 ∷ 0 ∷ 11 ∷ 0 ∷ 0 ∷ 11 ∷ 0 ∷ [])
+    ∷ answered (business 50) 40 (against moveOut 40) (0 ∷ 0 ∷ 0 ∷ 0 ∷ 11 ∷ 0 ∷ 11 ∷ 0 ∷ [])
+    ∷ answered (business 50) 40 (against standardSwitch 0) (0 ∷ 0 ∷ 0 ∷ 0 ∷ 0 ∷ 11 ∷ 11 ∷ 0 ∷ [])
+    ∷ answered (business 50) 40 (against selfSelectedSwitch 40) (0 ∷ 0 ∷ 0 ∷ 0 ∷ 0 ∷ 0 ∷ 11 ∷ 0 ∷ [])
+    ∷ answered (business 50) 40 (against massTransitionDrop 40) (0 ∷ 0 ∷ 0 ∷ 0 ∷ 0 ∷ 0 ∷ 0 ∷ 0 ∷ [])
     -- c. K 3 Scheduled for 40: a K 3 with switch date 40 gets 11, with 41 passes
-    ∷ answered closedTo40 30 (create 0 101 ∷ order standardSwitch 0 1 202 ∷ schedule 1 40 ∷ order standardSwitch 0 2 203 ∷ []) (0 ∷ 0 ∷ 0 ∷ 11 ∷ [])
-    ∷ answered (business 30 ++ replicate 11 2 ++ business 20) 30
-    (create 0 101 ∷ order standardSwitch 0 1 202 ∷ schedule 1 40 ∷ order standardSwitch 0 2 203 ∷ [])
-    (0 ∷ 0 ∷ 0 ∷ 0 ∷ [])
+    ∷ answered (closed 2) 38 (create 0 101 ∷ order standardSwitch 0 1 202 ∷ schedule 1 40 ∷ order standardSwitch 0 2 203 ∷ []) (0 ∷ 0 ∷ 0 ∷ 11 ∷ [])
+    ∷ answered (closed 3) 38 (create 0 101 ∷ order standardSwitch 0 1 202 ∷ schedule 1 40 ∷ order standardSwitch 0 2 203 ∷ []) (0 ∷ 0 ∷ 0 ∷ 0 ∷ [])
     -- c, K 3 Scheduled for 45, after the switch date 40: 11 too
-    ∷ answered closedTo40 30 (create 0 101 ∷ order standardSwitch 0 1 202 ∷ schedule 1 45 ∷ order standardSwitch 0 2 203 ∷ []) (0 ∷ 0 ∷ 0 ∷ 11 ∷ [])
-    -- c, without a switch date: 10
-    ∷ answered (business 30) 30 (create 0 101 ∷ order standardSwitch 0 1 202 ∷ []) (0 ∷ 10 ∷ [])
+    ∷ answered (closed 2) 38 (create 0 101 ∷ order standardSwitch 0 1 202 ∷ schedule 1 45 ∷ order standardSwitch 0 2 203 ∷ []) (0 ∷ 0 ∷ 0 ∷ 11 ∷ [])
+    -- c, without a switch date, on one of the last days and past the calendar: 10
+    ∷ answered (business 30) 4094 (create 0 101 ∷ order standardSwitch 0 1 202 ∷ []) (0 ∷ 10 ∷ [])
     -- e. 8 open: 12. One of them closed: accepted, that one gone
     ∷ answered (business 20) 10 (eight ++ (order massTransitionDrop 5 9 202 ∷ unexecuted 3 ∷ order massTransitionDrop 5 9 202 ∷ []))
     (0 ∷ 0 ∷ 0 ∷ 0 ∷ 0 ∷ 0 ∷ 0 ∷ 0 ∷ 0 ∷ 12 ∷ 0 ∷ 0 ∷ [])
@@ -330,12 +329,12 @@ pieces =
     ∷ waits (business 90) 50 (permitted ++ marks 12 51 ++ (read 1 62 ∷ [])) (counts 3 0 0 ∷ [])
     ∷ supplies (business 90) 50 (permitted ++ marks 12 51 ++ (read 1 62 ∷ [])) 101 0
     -- h. In window, same-day switches Cancel Pending, Scheduled, Scheduled: the second is kept, the others are Cancelled
-    ∷ left (business 40) 10 (threeSwitches ++ marks 2 26) (stands 1 cancelPending ∷ stands 2 scheduled ∷ stands 3 scheduled ∷ [])
-    ∷ left (business 40) 10 (threeSwitches ++ marks 3 26) (stands 1 cancelled ∷ stands 2 scheduled ∷ stands 3 cancelled ∷ [])
-    ∷ tells (business 40) 10 (threeSwitches ++ marks 3 26)
+    ∷ left (business 40) 25 (threeSwitches ++ marks 2 26) (stands 1 cancelPending ∷ stands 2 scheduled ∷ stands 3 scheduled ∷ [])
+    ∷ left (business 40) 25 (threeSwitches ++ marks 3 26) (stands 1 cancelled ∷ stands 2 scheduled ∷ stands 3 cancelled ∷ [])
+    ∷ tells (business 40) 25 (threeSwitches ++ marks 3 26)
     (sent codeCancel 30 1 tdsp ∷ sent codeCancel 30 1 202 ∷ sent codeCancel 30 3 tdsp ∷ sent codeCancel 30 3 204 ∷ sent codeLosing 30 2 101 ∷ [])
     -- h, with all three Cancel Pending: the oldest is kept
-    ∷ left (business 40) 10 (threeSwitches ++ (cancel 2 203 ∷ cancel 3 204 ∷ []) ++ marks 3 26) (stands 1 cancelPending ∷ stands 2 cancelled ∷ stands 3 cancelled ∷ [])
+    ∷ left (business 40) 25 (threeSwitches ++ (cancel 2 203 ∷ cancel 3 204 ∷ []) ++ marks 3 26) (stands 1 cancelPending ∷ stands 2 cancelled ∷ stands 3 cancelled ∷ [])
     -- h, switches of two days do not meet
     ∷ left (business 20) 10 (switching 101 11 ++ (order selfSelectedSwitch 50 2 203 ∷ schedule 2 12 ∷ [])) (stands 1 scheduled ∷ stands 2 scheduled ∷ [])
     -- i. T 10: SD 12 is in window, 13 not

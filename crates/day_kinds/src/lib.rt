@@ -1,15 +1,7 @@
-// The days layer: which numbers are days, and of which kind a day is. A calendar is lent bytes, one per day; each function answers for every
-// calendar and every day number.
+// The days layer: of which kind a day is. A calendar is lent bytes, one per day; each function answers for every calendar and every day
+// number.
 ghost use mathlib.Core.Path.{_≡_};
-ghost use Rattle.days.specs.Days.{isDay, kindOfDay, isBusinessDay};
-use days::LAST_DAY;
-
-// Whether a number is a day.
-pub fn is_day(day: u16) -> bool
-    ensures { λ r. ⌜ r ≡ isDay day ⌝ }
-{
-    day <= LAST_DAY
-}
+ghost use Rattle.days.specs.Days.{kindOfDay, isBusinessDay};
 
 // The kind of a day: its byte where it lies in the calendar and the byte is 0 or 1, else 2.
 pub fn kind_of_day(calendar: &[u8], day: u16) -> u8

@@ -1,5 +1,5 @@
 // The days layer. Here stand its numbers; its rules stand in specs/, from document 01's section "Days". A calendar is lent bytes, one per
-// day. The code: `day_kinds`, which numbers are days and of which kind a day is; `day_searches`, the switch date and the last day in window.
+// day. The code: `day_kinds`, of which kind a day is; `day_searches`, the switch date and the last day in window.
 
 // The last day that there is.
 pub const LAST_DAY: u16 = 4095;

@@ -16,4 +16,5 @@ pub mod OnHeld
 pub mod ByReading
 pub mod OnWay
 pub mod OneCall
+pub mod Alone
 pub mod Demand3

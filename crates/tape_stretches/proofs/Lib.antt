@@ -1,4 +1,5 @@
 pub mod Records
 pub mod Stretching
 pub mod Ways
+pub mod Marking
 pub mod Turns

@@ -1,34 +1,25 @@
 -- Each way that the call of a record is made on a book that stays in its place. Assumes nothing.
-use Prim.Native.Nat.{ℕ, _+_, _≤_, _<_}
+use Prim.Native.Nat.{ℕ, _≤_, _<_}
 use mathlib.Core.Path.{_≡_, sym, ap, subst, subst⁻¹, _∙_}
 use mathlib.Core.List.{List}
 use mathlib.Core.Option.{some}
-use mathlib.Core.Bool.{Bool, true, false}
+use mathlib.Core.Bool.{true}
 use native.Mathlib.Omega.{arith}
-use lib.ListN.{length, getD, set, length-map}
-use Rattle.lists.specs.Search.{Each}
-use Rattle.days.specs.Days.{lastDay, isBusinessDay}
-use Rattle.days.specs.Window.{windowWidth, LastInWindow}
+use lib.ListN.{length, getD, length-map}
+use Rattle.days.specs.Days.{lastDay}
 use Rattle.records.specs.declared.Record.{Record}
 use Rattle.premise.specs.declared.File.{File}
-use Rattle.premise.specs.declared.Passed.{Passed}
 use Rattle.premise.specs.declared.Answer.{Answer}
 use Rattle.premise.specs.declared.Answer.the-variants.{Accepted}
-use Rattle.premise.specs.Orders.{held}
-use Rattle.premise.specs.OnePremise.{marked}
-use Rattle.premise.specs.WellKept.{Tidy}
-use Rattle.premise.specs.Promises.{Room, DoneToFile}
-use Rattle.premise_quiet.specs.Quiet.{touched}
 use Rattle.book.specs.declared.Book.{Book}
 use Rattle.book.specs.declared.Reply.{Reply}
-use Rattle.book.specs.Book.{mostFiles, filesOf, bookKept}
-use Rattle.book.specs.Calls.{noticeBytes, markedNotices, givenOn}
-use Rattle.book.specs.Laws.{BookKept, withFileAt, numbersOf, TidyBook}
+use Rattle.book.specs.Book.{mostFiles, bookKept}
+use Rattle.book.specs.Calls.{noticeBytes, givenOn}
+use Rattle.book.specs.Laws.{BookKept, withFileAt, numbersOf}
 use Rattle.book.specs.Promise.{Promised}
 use Rattle.book.proofs.Kept.{book-kept-means}
-use Rattle.book_files.proofs.Tidy.{past, withPlaces, length-files}
-use Rattle.book_marks.proofs.Marks.{Sofar, sofar-none, sofar-tidy, sofar-room, sofar-turn, sofar-still, sofar-book, sofar-wrote}
-use Rattle.book_marks.proofs.OnMark.{mark-asks}
+use Rattle.book_files.proofs.Tidy.{past, length-files}
+use Rattle.book_marks.proofs.Marks.{Sofar, sofar-book, sofar-wrote}
 use Rattle.book_look.specs.declared.Look.{Look}
 use Rattle.book_look.specs.declared.Look.the-variants.{Refused, Held, NextDay}
 use Rattle.book_look.specs.LookUp.{lookUp, Known, KnownHeld}
@@ -62,19 +53,19 @@ pub made-as : {calendar : List ℕ} {b : Book} {bytes buffer : List ℕ} {o o' :
 made-as {calendar} {b} {bytes} {buffer} e m = subst⁻¹ (Made calendar b bytes buffer) e m
 
 module _ {b : Book} {numbers buffer : List ℕ} (t : Standing b numbers buffer) where
-  kept : BookKept b
-  kept = book-kept-means b .0 (t .kept)
+  pub well-kept : BookKept b
+  well-kept = book-kept-means b .0 (t .kept)
 
   -- each place has its number
   pub each-place : mostFiles ≡ length numbers
-  each-place = sym (ap length (t .own) ∙ length-map (b .files) (λ (f : File). f .premise) ∙ length-files b (kept .tidy))
+  each-place = sym (ap length (t .own) ∙ length-map (b .files) (λ (f : File). f .premise) ∙ length-files b (well-kept .tidy))
 
   pub look-asks : (b .today ≤ lastDay) × (b .count ≤ length numbers)
-  look-asks = (kept .today, omega (arith, each-place, kept .tidy .few))
+  look-asks = (well-kept .today, omega (arith, each-place, well-kept .tidy .few))
 
   -- what a record asks that hands the book over
   pub call-asks : BookKept b × (noticeBytes ≤ length buffer)
-  call-asks = (kept, t .room)
+  call-asks = (well-kept, t .room)
 
   -- ---- by what its look-up found
   module _ (bytes : List ℕ) {look : Look} (e : look ≡ lookUp bytes (b .today) numbers (b .count)) where
@@ -95,7 +86,7 @@ module _ {b : Book} {numbers buffer : List ℕ} (t : Standing b numbers buffer) 
       found = known (Held at r) is
 
       pub held-place : at < mostFiles
-      held-place = omega (arith, found .held .within, kept .tidy .few)
+      held-place = omega (arith, found .held .within, well-kept .tidy .few)
 
       pub held-asks : HeldReady (getD (b .files) at past) r buffer
       held-asks = book-ready b bytes buffer r at past (t .kept) (t .room) found
@@ -108,51 +99,7 @@ module _ {b : Book} {numbers buffer : List ℕ} (t : Standing b numbers buffer) 
         → Sofar calendar day (b .count) (b .files) buffer i sent c after → b .count ≤ i
         → Made calendar b bytes buffer (record { answer = Accepted; sent = sent; book = c; numbers = numbers; buffer = after })
     by-marks {calendar} {day} is {i} {sent} {c} {after} s end =
-        let tidy = kept .tidy in
+        let tidy = well-kept .tidy in
         in-place
         (marked-in-place calendar b bytes buffer after day sent c (t .kept) (t .room) (known (NextDay day) is)
         (sofar-book calendar day b tidy buffer i sent c after s end) (sofar-wrote calendar day b tidy buffer i sent c after s end))
-
--- ---- the day mark
--- .. after some files: `today` is T before it
-pub record Marking (calendar : List ℕ) (day count : ℕ) (files : List File) (numbers buffer : List ℕ) (i sent : ℕ) (c : Book) (after : List ℕ) : Type 0 where
-  pub today : ℕ
-  pub standing : Standing (record { today = today; count = count; files = files }) numbers buffer
-  pub sofar : Sofar calendar day count files buffer i sent c after
-
-pub mark-none : (calendar : List ℕ) (day : ℕ) {b : Book} {numbers buffer : List ℕ} → Standing b numbers buffer
-    → Marking calendar day (b .count) (b .files) numbers buffer 0 0 (record { today = day; count = b .count; files = b .files }) buffer
-mark-none calendar day {b} {numbers} {buffer} t = record { today = b .today; standing = t; sofar = sofar-none calendar day b buffer }
-
--- the next file is marked, or not touched
-module _ {calendar : List ℕ} {day count : ℕ} {files : List File} {numbers buffer : List ℕ} {i sent : ℕ} {c : Book} {after : List ℕ}
-    (m : Marking calendar day count files numbers buffer i sent c after) (h : i < count) where
-  abbrev book : Book
-  book = record { today = m .today; count = count; files = files }
-
-  pub mark-place : i < mostFiles
-  mark-place = omega (arith, h, kept (m .standing) .tidy .few)
-
-  asks : TidyBook book × Each Tidy (filesOf book) × Room 0 (markedNotices calendar day (filesOf book)) buffer
-  asks = mark-asks calendar book day buffer (kept (m .standing)) (m .standing .room)
-
-  pub mark-tidy : Tidy (getD (c .files) i past)
-  mark-tidy = sofar-tidy calendar day book (asks .0) buffer (asks .2) i sent c after (m .sofar) h (asks .1)
-
-  pub mark-room : Room sent (marked calendar day (getD (c .files) i past) .notices) after
-  mark-room = sofar-room calendar day book (asks .0) buffer (asks .2) i sent c after (m .sofar) h
-
-  pub mark-more : (r : Passed) {last : List ℕ} → DoneToFile (marked calendar day (getD (c .files) i past)) sent r after last
-      → Marking calendar day count files numbers buffer (i + 1) (r .sent) (withPlaces c (c .count) (set (c .files) i (r .file))) last
-  mark-more r {last} done =
-      record { today = m .today; standing = m .standing; sofar = sofar-turn calendar day book (asks .0) buffer (asks .2) i sent c after (m .sofar) h r last done }
-
-  pub mark-still : (business untouched : Bool) (last : ℕ) → business ≡ isBusinessDay calendar day → LastInWindow calendar windowWidth day last
-      → untouched ≡ touched business day last (held (getD (c .files) i past)) → untouched ≡ false
-      → Marking calendar day count files numbers buffer (i + 1) sent c after
-  mark-still business untouched last kind window asked stays =
-      record {
-        today = m .today;
-        standing = m .standing;
-        sofar = sofar-still calendar day book (asks .0) buffer (asks .2) i sent c after (m .sofar) h business untouched last (asks .1) kind window asked stays;
-      }

@@ -7,7 +7,8 @@ use native.Mathlib.Omega.{arith}
 use lib.ListN.{length, take, drop}
 use Rattle.book.specs.Book.{mostFiles}
 use Rattle.tape_stretches.proofs.Stretching.{stretching-length, stretching-within, stretching-closes}
-use Rattle.tape_stretches.proofs.Ways.{Made, made-as, each-place, look-asks, by-refusal, held-place, held-asks, by-file, by-marks, call-asks, Marking, mark-none, mark-place, mark-tidy, mark-room, mark-more, mark-still}
+use Rattle.tape_stretches.proofs.Ways.{Made, made-as, each-place, look-asks, by-refusal, held-place, held-asks, by-file, by-marks, call-asks}
+use Rattle.tape_stretches.proofs.Marking.{Marking, mark-none, mark-place, mark-tidy, mark-room, mark-more, mark-still}
 use Rattle.tape_stretches.proofs.Turns.{of, Turn, turn-none, standing, turn-tells, turn-more}
 use Rattle.tape_player.proofs.play_on.Statement.{statement}
 use Rattle.tape_player.proofs.play_on.Tie as tie

@@ -2,8 +2,7 @@
 //! the notices that the one-premise rules give from the premise's own records
 //! and the day marks; and a shuffled tape leads to an equal book.
 
-mod support;
-
+use crate::support::*;
 use stacking::answer::Answer;
 use stacking::book::{record_call, Book};
 use stacking::random::Random;
@@ -12,7 +11,6 @@ use stacking::rules::OnePremise;
 use stacking::sample::{calendar, shuffle, tape, TapeOptions};
 use stacking::well_kept::is_well_kept;
 use std::collections::{BTreeMap, BTreeSet};
-use support::*;
 
 /// What a premise gets: its answers, and its notices call after call.
 #[derive(Debug, Default, PartialEq)]

@@ -1,14 +1,12 @@
 //! The record call as a whole: its buffer, its book, many files at once.
 
-mod support;
-
+use crate::support::*;
 use stacking::answer::Answer;
 use stacking::book::{record_call, record_call_untested, Book, FILES_A_BOOK};
 use stacking::file::ORDERS_A_FILE;
 use stacking::notice::NOTICE_BUFFER_BYTES;
 use stacking::record::{Entry, Fields, RECORD_BYTES};
 use stacking::well_kept::is_well_kept;
-use support::*;
 
 /// A book that is sent records which must all be taken.
 fn take(book: &mut Book, buffer: &mut [u8], premise: u64, entry: Entry) {

@@ -1,9 +1,7 @@
 //! Row 3, by the bytes alone: every field of every kind of record, every length.
 
-mod support;
-
+use crate::support::*;
 use stacking::record::{decode, Fields, RECORD_BYTES};
-use support::*;
 
 const LARGEST: u32 = 999_999_999;
 

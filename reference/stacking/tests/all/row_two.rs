@@ -1,7 +1,6 @@
 //! Row 2: every clause of 'Well kept' broken one at a time.
 
-mod support;
-
+use crate::support::*;
 use stacking::book::{record_call, Book, FILES_A_BOOK};
 use stacking::days::{BusinessDays, CalendarDays};
 use stacking::file::{File, ORDERS_A_FILE};
@@ -9,7 +8,6 @@ use stacking::order::Order;
 use stacking::random::Random;
 use stacking::sample::{damage, well_kept_book};
 use stacking::well_kept::is_well_kept;
-use support::*;
 
 /// Is the book answered 2? And if so, was it left as it was?
 fn answered_2(book: &Book) -> bool {

@@ -1,12 +1,10 @@
 //! The table of answers: each row on its own, and before the rows after it.
 
-mod support;
-
+use crate::support::*;
 use stacking::book::{record_call, Book, FILES_A_BOOK};
 use stacking::file::File;
 use stacking::order::Order;
 use stacking::record::{Entry, RECORD_BYTES};
-use support::*;
 
 /// A call that gets a certain number.
 struct Case {

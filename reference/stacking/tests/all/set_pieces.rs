@@ -1,9 +1,7 @@
 //! The set pieces a to j of document 01. All days are business days unless said.
 
-mod support;
-
+use crate::support::*;
 use stacking::days::switch_date;
-use support::*;
 
 #[test]
 fn a_requested_day_90_ahead_to_270_back() {

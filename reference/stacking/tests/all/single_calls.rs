@@ -1,7 +1,6 @@
 //! Random single calls on well-kept books of all kinds and on damaged ones.
 
-mod support;
-
+use crate::support::PATTERN;
 use stacking::answer::Answer;
 use stacking::book::{record_call, record_call_untested, Book};
 use stacking::days::{Window, WINDOW};
@@ -14,7 +13,6 @@ use stacking::rules::OnePremise;
 use stacking::sample::{call, well_kept_book, Call};
 use stacking::well_kept::is_well_kept;
 use std::collections::BTreeSet;
-use support::PATTERN;
 
 struct Outcome {
     answer: Answer,

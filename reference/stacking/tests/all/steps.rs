@@ -1,10 +1,8 @@
 //! Each kind of record, the clock and the evaluation, sentence by sentence.
 
-mod support;
-
+use crate::support::*;
 use stacking::days::{is_business_day, switch_date, BusinessDays, CalendarDays, Window, WINDOW};
 use stacking::order::{kind, status, Order};
-use support::*;
 
 /// A desk on day 10 with one order in a status, scheduled for day 30 where the
 /// status has a day.

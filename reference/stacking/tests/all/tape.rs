@@ -1,12 +1,10 @@
 //! The tape program, as a function and as a program.
 
-mod support;
-
+use crate::support::*;
 use stacking::tape::{play, TAPE_BYTES};
 use std::io::Write;
 use std::path::PathBuf;
 use std::process::{Command, Output, Stdio};
-use support::*;
 
 /// Document 01's tape and what it prints.
 fn document_tape() -> Vec<u8> {

@@ -1,0 +1,13 @@
+//! The tests of the second program, in one program: a topic a module.
+
+mod demand_three;
+mod programs;
+mod record_call;
+mod row_three;
+mod row_two;
+mod rows;
+mod set_pieces;
+mod single_calls;
+mod steps;
+mod support;
+mod tape;

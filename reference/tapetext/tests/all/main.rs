@@ -1,0 +1,6 @@
+//! The tests of readable tapes, in one program: a topic a module.
+
+mod command;
+mod document_01;
+mod inverse;
+mod messages;

@@ -10,11 +10,6 @@ pub mod Few
 pub mod Emits
 pub mod Demand1
 pub mod Row6
-pub mod Picks
 pub mod Acts
 pub mod OnHeld
 pub mod ByReading
-pub mod OnWay
-pub mod OneCall
-pub mod Alone
-pub mod Demand3

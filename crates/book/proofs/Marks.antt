@@ -1,11 +1,13 @@
--- A day mark on a list of files: each is left well kept and under its number, so that the list rises as before. Assumes nothing.
+-- A day mark on a list of files: each is left well kept and under its number, so that the list rises as before; the notices stand in the
+-- files' order. Assumes nothing.
 use Prim.Native.Nat.{ℕ}
-use mathlib.Core.Path.{_≡_, refl, ap, _∙_}
-use mathlib.Core.List.{List, [], _∷_}
+use mathlib.Core.Path.{_≡_, refl, sym, ap, _∙_}
+use mathlib.Core.List.{List, [], _∷_, _++_, append-assoc}
 use mathlib.Core.Option.{some}
 use mathlib.Core.Bool.{Bool, true, false, cond}
 use lib.Dec.{eqb}
 use Rattle.lists.specs.Search.{Each}
+use Rattle.records.specs.declared.Notice.{Notice}
 use Rattle.premise.specs.declared.File.{File}
 use Rattle.premise.specs.WellKept.{FileKept}
 use Rattle.premise.specs.OnePremise.{State, marked}
@@ -13,7 +15,8 @@ use Rattle.premise.specs.Laws.{markedOr}
 use Rattle.premise_laws.specs.Laws.{KeptFor}
 use Rattle.premise_laws.proofs.KeptPasses.{mark-keeps}
 use Rattle.book.specs.Book.{fileFor}
-use Rattle.book.specs.Calls.{markedFiles}
+use Rattle.book.specs.Calls.{markedFiles, markedNotices}
+use Rattle.book.specs.Laws.{MarkTellsInOrder}
 use Rattle.book.proofs.Files.{Rising}
 
 module _ (calendar : List ℕ) (day : ℕ) where
@@ -49,3 +52,9 @@ module _ (calendar : List ℕ) (day : ℕ) where
   pub marked-rising : (n : ℕ) (fs : List File) → Each FileKept fs → Rising n fs → Rising n (markedFiles calendar day fs)
   marked-rising n [] u r = tt
   marked-rising n (f ∷ fs) u r = rw (marked-one f (u .0) .number) (r .0, marked-rising (f .premise) fs (u .1) (r .1))
+
+pub mark-tells-in-order : MarkTellsInOrder
+mark-tells-in-order calendar day [] others = refl
+mark-tells-in-order calendar day (f ∷ fs) others =
+    ap (λ (l : List Notice). marked calendar day f .notices ++ l) (mark-tells-in-order calendar day fs others)
+    ∙ sym (append-assoc (marked calendar day f .notices) (markedNotices calendar day fs) (markedNotices calendar day others))

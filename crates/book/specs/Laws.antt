@@ -2,7 +2,7 @@
 use Prim.Native.Nat.{ℕ, _*_, _≤_, _<_}
 use mathlib.Core.Path.{_≡_}
 use mathlib.Core.Logic.{_↔_}
-use mathlib.Core.List.{List, map}
+use mathlib.Core.List.{List, _++_, map}
 use mathlib.Core.Option.{none, some}
 use mathlib.Core.Bool.{true, false}
 use lib.ListN.{length, getD, set}
@@ -128,3 +128,9 @@ abbrev pub MarkKeepsNumbers : Type 0
 MarkKeepsNumbers =
     (calendar : List ℕ) (b : Book) (day : ℕ) → BookKept b
     → numbersOf (bookOf day (markedFiles calendar day (filesOf b))) ≡ numbersOf b
+
+-- a mark on files put together tells of the first and then of the others: its notices stand in the files' order
+abbrev pub MarkTellsInOrder : Type 0
+MarkTellsInOrder =
+    (calendar : List ℕ) (day : ℕ) (first others : List File)
+    → markedNotices calendar day (first ++ others) ≡ markedNotices calendar day first ++ markedNotices calendar day others

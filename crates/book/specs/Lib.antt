@@ -3,4 +3,3 @@ pub mod Calls
 pub mod Promise
 pub mod Laws
 pub mod Demand1
-pub mod Demand3

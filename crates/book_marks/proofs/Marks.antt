@@ -1,7 +1,7 @@
 -- A day mark on a tidy book, file by file: what stands after some turns, and at the end. Assumes nothing.
 use Prim.Native.Nat.{ℕ, suc, _+_, _-_, _≤_, _<_}
 use mathlib.Core.Path.{_≡_, refl, sym, ap, ap₂, subst, subst⁻¹, _∙_}
-use mathlib.Core.List.{List, [], _∷_, _++_, append-assoc, append-nil, map-append}
+use mathlib.Core.List.{List, [], _∷_, _++_, append-nil, map-append}
 use mathlib.Core.Bool.{Bool, false}
 use native.Mathlib.Numerals.{add-one}
 use native.Mathlib.Omega.{arith}
@@ -27,16 +27,10 @@ use Rattle.book.specs.Book.{mostFiles, filesOf, bookOf}
 use Rattle.book.specs.Calls.{markedFiles, markedNotices}
 use Rattle.book.specs.Laws.{TidyBook}
 use Rattle.book.proofs.Kept.{count-is}
+use Rattle.book.proofs.Marks.{mark-tells-in-order}
 use Rattle.book_files.proofs.Tidy.{past, spare, withPlaces, at-file, length-files, unused, book-is}
 
 module _ (calendar : List ℕ) (day : ℕ) where
-  -- a mark on a list that is put together
-  notices-append : (xs ys : List File) → markedNotices calendar day (xs ++ ys) ≡ markedNotices calendar day xs ++ markedNotices calendar day ys
-  notices-append [] ys = refl
-  notices-append (x ∷ xs) ys =
-      ap (λ (l : List Notice). marked calendar day x .notices ++ l) (notices-append xs ys)
-      ∙ sym (append-assoc (marked calendar day x .notices) (markedNotices calendar day xs) (markedNotices calendar day ys))
-
   length-marked : (xs : List File) → length (markedFiles calendar day xs) ≡ length xs
   length-marked xs = length-map xs (λ (f : File). marked calendar day f .file)
 
@@ -54,7 +48,7 @@ module _ (calendar : List ℕ) (day : ℕ) (b : Book) (tidy : TidyBook b) where
   notices-split : (i : ℕ) → markedNotices calendar day (filesOf b) ≡ markedNotices calendar day (take i (filesOf b)) ++ markedNotices calendar day (drop i (filesOf b))
   notices-split i =
       ap (markedNotices calendar day) (sym (take-append-drop i (filesOf b)))
-      ∙ notices-append calendar day (take i (filesOf b)) (drop i (filesOf b))
+      ∙ mark-tells-in-order calendar day (take i (filesOf b)) (drop i (filesOf b))
 
   module _ (i : ℕ) (h : i < b .count) where
     -- the file at a place
@@ -77,7 +71,7 @@ module _ (calendar : List ℕ) (day : ℕ) (b : Book) (tidy : TidyBook b) where
     notices-more : markedNotices calendar day (take (i + 1) (filesOf b)) ≡ markedNotices calendar day (take i (filesOf b)) ++ marked calendar day file .notices
     notices-more =
         ap (markedNotices calendar day) files-more
-        ∙ notices-append calendar day (take i (filesOf b)) (file ∷ [])
+        ∙ mark-tells-in-order calendar day (take i (filesOf b)) (file ∷ [])
         ∙ ap (λ (l : List Notice). markedNotices calendar day (take i (filesOf b)) ++ l) (append-nil (marked calendar day file .notices))
 
     rest : drop i (b .files) ≡ getD (b .files) i past ∷ drop (suc i) (b .files)

@@ -25,8 +25,8 @@ use Rattle.premise.specs.OnePremise.{marked, stepped, step}
 use Rattle.book.specs.declared.Book.{Book}
 use Rattle.book.specs.Book.{freshBook, bookOf, bookKept, fileFor, putIn, takenOut}
 use Rattle.book.specs.Calls.{noticeBytes, callRows, call, meetsRow6}
-use Rattle.book.specs.Demand3.{Played, AllAllowed, Premise, ownBytes, SameBooks}
-use Rattle.book.proofs.Demand3.{shuffle-proof}
+use Rattle.book_demand_3.specs.Demand3.{Played, AllAllowed, Premise, ownBytes, SameBooks}
+use Rattle.book_demand_3.proofs.Demand3.{shuffle-proof}
 use Rattle.book_sample.specs.Sample.{lent, made, plays, allows, create7, create5, order7, order5, scheduled7, scheduled5, mark1, malformed, calendar, tape, sample, shuffled, again, ordered7, dated7, losing7, ordered5, dated5, losing5, buffers, Comes}
 
 -- each call of a list that is played keeps the record call's promise, whatever the records

@@ -12,7 +12,7 @@ use Rattle.records.specs.Notices.{encodeAll, rows}
 use Rattle.book.specs.declared.Book.{Book}
 use Rattle.book.specs.Book.{freshBook}
 use Rattle.book.specs.Calls.{noticeBytes, Result, call, meetsRow6}
-use Rattle.book.specs.Demand3.{Made, answers, noticesFor}
+use Rattle.book_demand_3.specs.Demand3.{Made, answers, noticesFor}
 
 -- a buffer of the shortest length that is taken
 unfoldable pub lent : List ℕ

@@ -17,16 +17,16 @@ use Rattle.premise.specs.declared.Answer.the-variants.{NotNextDay}
 use Rattle.premise.specs.Steps.{is}
 use Rattle.premise.specs.OnePremise.{step}
 use Rattle.premise_laws.specs.Laws.{Held, KeptFor}
 use Rattle.book.specs.declared.Book.{Book}
 use Rattle.book.specs.Book.{filesOf, bookOf, withFile}
 use Rattle.book.specs.Calls.{premiseState, markedFiles, refusal, onDayMark, asOne, markedBook}
 use Rattle.book.specs.Laws.{BookKept}
-use Rattle.book.specs.Demand3.{Premise}
+use Rattle.book_demand_3.specs.Demand3.{Premise}
 use Rattle.book.proofs.SameFiles.{with-each}
 use Rattle.book.proofs.Kept.{holds-its-files}
 use Rattle.book.proofs.Marks.{marked-numbers}
 use Rattle.book.proofs.Keeps.{has-premise, step-kept-file}
 use Rattle.book.proofs.Acts.{acted}
 
 -- ---- a book on the way: well kept, and every premise number in range
 abbrev pub InRange : List File → Type 0

@@ -10,15 +10,15 @@ use Rattle.records.specs.Notices.{encode, rows}
 use Rattle.records.proofs.Emits.{emits-rows}
 use Rattle.premise.specs.Refusals.{number}
 use Rattle.premise.specs.OnePremise.{State, Given, step, runs, endState}
 use Rattle.book.specs.declared.Book.{Book}
 use Rattle.book.specs.Calls.{premiseState, Result, call}
-use Rattle.book.specs.Demand3.{Made, Played, lastBook, Allowed, AllAllowed, concerns, ownBytes, said, records, answers, withPremise, noticesFor, ruledAnswers, ruledNotices}
+use Rattle.book_demand_3.specs.Demand3.{Made, Played, lastBook, Allowed, AllAllowed, concerns, ownBytes, said, records, answers, withPremise, noticesFor, ruledAnswers, ruledNotices}
 use Rattle.book.specs.Promise.{Promised}
 use Rattle.book.proofs.Kept.{book-kept-means}
 use Rattle.book.proofs.Keeps.{call-keeps}
 use Rattle.book.proofs.Acts.{acted, call-acts}
-use Rattle.book.proofs.OnWay.{OnWay, sound, ranged-acted}
-use Rattle.book.proofs.OneCall.{mine, Agrees, agrees}
+use Rattle.book_demand_3.proofs.OnWay.{OnWay, sound, ranged-acted}
+use Rattle.book_demand_3.proofs.OneCall.{mine, Agrees, agrees}
 
 -- ---- a list of calls is its first call and the rest
 with-first : {X Y : Type 0} (of : List X → List Y) (x : X) (xs : List X) (ys : List Y) → of (x ∷ xs) ≡ ys ++ of xs → (c : Bool) → of (cond c (x ∷ xs) xs) ≡ cond c ys [] ++ of xs

@@ -19,18 +19,18 @@ use Rattle.premise.specs.OnePremise.{Given, refused, step, runs, endState}
 use Rattle.premise.specs.Laws.{markedOr}
 use Rattle.premise.proofs.Answers.{only-marks-move, mark-step}
 use Rattle.premise_laws.proofs.Notices.{step-notices}
 use Rattle.book.specs.declared.Book.{Book}
 use Rattle.book.specs.Book.{filesOf, bookOf, fileFor, withFile}
 use Rattle.book.specs.Calls.{premiseState, markedFiles, Result, refusal, onDayMark, asOne, markedBook}
-use Rattle.book.specs.Demand3.{concerns, said, withPremise, ruledAnswers, ruledNotices}
+use Rattle.book_demand_3.specs.Demand3.{concerns, said, withPremise, ruledAnswers, ruledNotices}
 use Rattle.book.proofs.Files.{Rising, rises-rising}
 use Rattle.book.proofs.SameFiles.{Numbered, with-found, with-others}
 use Rattle.book.proofs.Kept.{holds-its-files}
 use Rattle.book.proofs.Marks.{marked-state}
 use Rattle.book.proofs.Keeps.{numbers, found-kept, step-kept-file}
-use Rattle.book.proofs.Picks.{pick-own, pick-other, pick-marked}
+use Rattle.book_demand_3.proofs.Picks.{pick-own, pick-other, pick-marked}
 use Rattle.book.proofs.Acts.{acted, marked-accepted}
-use Rattle.book.proofs.OnWay.{OnWay, Sound, SoundIn}
+use Rattle.book_demand_3.proofs.OnWay.{OnWay, Sound, SoundIn}
 
 -- what a premise has in a book that is made of files
 pub state-of : (today premise : ℕ) (fs : List File) → premiseState (bookOf today fs) premise ≡ record { today = today; file = fileFor premise fs }

@@ -6,16 +6,16 @@ use mathlib.Core.List.{[]}
 use native.Mathlib.Omega.{arith}
 use Rattle.days.specs.Days.{lastDay}
 use Rattle.premise.specs.OnePremise.{State, startState, runs, endState}
 use Rattle.book.specs.declared.Book.{Book}
 use Rattle.book.specs.Book.{filesOf, bookOf, freshBook, fileFor}
 use Rattle.book.specs.Calls.{premiseState}
-use Rattle.book.specs.Demand3.{lastBook, Premise, records, ruledAnswers, ruledNotices, AsRuled, EachPremiseAlone, SameFor, ShuffleProof, Demand3}
+use Rattle.book_demand_3.specs.Demand3.{lastBook, Premise, records, ruledAnswers, ruledNotices, AsRuled, EachPremiseAlone, SameFor, ShuffleProof, Demand3}
 use Rattle.book.proofs.Files.{rises-rising}
 use Rattle.book.proofs.SameFiles.{same-files}
 use Rattle.book.proofs.Kept.{book-kept-means, fresh-kept, holds-its-files}
-use Rattle.book.proofs.OnWay.{OnWay}
-use Rattle.book.proofs.OneCall.{state-of}
-use Rattle.book.proofs.Alone.{Alone, alone, last-on-way}
+use Rattle.book_demand_3.proofs.OnWay.{OnWay}
+use Rattle.book_demand_3.proofs.OneCall.{state-of}
+use Rattle.book_demand_3.proofs.Alone.{Alone, alone, last-on-way}
 
 -- ---- from a fresh book
 fresh-on-way : (start : ℕ) → OnWay (freshBook start)

@@ -16,10 +16,10 @@ use Rattle.premise.specs.OnePremise.{marked}
 use Rattle.premise.specs.Laws.{markedOr}
 use Rattle.premise_laws.specs.Laws.{Of}
 use Rattle.premise_laws.proofs.Notices.{mark-notices}
 use Rattle.book.specs.Book.{fileFor}
 use Rattle.book.specs.Calls.{markedNotices}
-use Rattle.book.specs.Demand3.{Premise, withPremise}
+use Rattle.book_demand_3.specs.Demand3.{Premise, withPremise}
 use Rattle.book.proofs.Files.{Rising, found-below, found-head, found-tail}
 
 -- ---- picked by number
 pick-append : (premise : ℕ) (a b : List (List ℕ)) → withPremise premise (a ++ b) ≡ withPremise premise a ++ withPremise premise b

@@ -1,0 +1,5 @@
+pub mod OnWay
+pub mod Picks
+pub mod OneCall
+pub mod Alone
+pub mod Demand3

@@ -6,23 +6,22 @@ use mathlib.Core.Bool.{Bool, cond}
 use native.Mathlib.Omega.{arith}
 use lib.ListN.{length}
 use borrow.Author.Tests.{eq-eqb, ne-eqb}
-use Rattle.lists.specs.Search.{Each}
 use Rattle.lists.proofs.SearchLaws.{each-map}
 use Rattle.records.specs.declared.Record.{Record}
 use Rattle.premise.specs.declared.Answer.the-variants.{NotNextDay, Accepted}
 use Rattle.premise.specs.WellKept.{Tidy, FileKept}
-use Rattle.premise.specs.Promises.{Room, Writes}
+use Rattle.premise.specs.Promises.{Writes}
 use Rattle.book.specs.declared.Book.{Book}
 use Rattle.book.specs.declared.Reply.{Reply}
 use Rattle.book.specs.Book.{filesOf, bookOf}
 use Rattle.book.specs.Calls.{noticeBytes, markedFiles, markedNotices, refusal, markedBook, onDayMark}
-use Rattle.book.specs.Laws.{BookKept, TidyBook}
+use Rattle.book.specs.Laws.{BookKept}
 use Rattle.book.proofs.Few.{mark-all-few}
 use Rattle.book_replies.specs.Parts.{Gives}
 use Rattle.book_replies.proofs.Refusals.{gives-refusal}
+use Rattle.book_marks.proofs.Marking.{Asked}
 
-pub mark-asks : (calendar : List ℕ) (b : Book) (day : ℕ) (buffer : List ℕ) → BookKept b → noticeBytes ≤ length buffer
-    → TidyBook b × Each Tidy (filesOf b) × Room 0 (markedNotices calendar day (filesOf b)) buffer
+pub mark-asks : (calendar : List ℕ) (b : Book) (day : ℕ) (buffer : List ℕ) → BookKept b → noticeBytes ≤ length buffer → Asked calendar day b buffer
 mark-asks calendar b day buffer k room =
     (k .tidy, each-map FileKept Tidy (λ f u. u .tidy) (filesOf b) (k .files), omega (arith, mark-all-few calendar b day k, room))
 

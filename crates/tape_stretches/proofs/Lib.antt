@@ -1,5 +1,4 @@
 pub mod Records
 pub mod Stretching
 pub mod Ways
-pub mod Marking
 pub mod Turns

@@ -19,7 +19,8 @@ use Rattle.book.specs.Laws.{BookKept, withFileAt, numbersOf}
 use Rattle.book.specs.Promise.{Promised}
 use Rattle.book.proofs.Kept.{book-kept-means}
 use Rattle.book_files.proofs.Tidy.{past, length-files}
-use Rattle.book_marks.proofs.Marks.{Sofar, sofar-book, sofar-wrote}
+use Rattle.book_marks.proofs.Marking.{Asked, Marking, dated, mark-book, mark-wrote}
+use Rattle.book_marks.proofs.OnMark.{mark-asks}
 use Rattle.book_look.specs.declared.Look.{Look}
 use Rattle.book_look.specs.declared.Look.the-variants.{Refused, Held, NextDay}
 use Rattle.book_look.specs.LookUp.{lookUp, Known, KnownHeld}
@@ -67,6 +68,10 @@ module _ {b : Book} {numbers buffer : List ℕ} (t : Standing b numbers buffer) 
   pub call-asks : BookKept b × (noticeBytes ≤ length buffer)
   call-asks = (well-kept, t .room)
 
+  -- what a day mark asks
+  pub day-asks : (calendar : List ℕ) (day : ℕ) → Asked calendar day b buffer
+  day-asks calendar day = mark-asks calendar b day buffer well-kept (t .room)
+
   -- ---- by what its look-up found
   module _ (bytes : List ℕ) {look : Look} (e : look ≡ lookUp bytes (b .today) numbers (b .count)) where
     known : (l : Look) → look ≡ l → Known bytes b past l
@@ -96,10 +101,7 @@ module _ {b : Book} {numbers buffer : List ℕ} (t : Standing b numbers buffer) 
       by-file {calendar} reply {after} gives = in-place (held-in-place calendar b bytes buffer after r at past reply (t .kept) (t .room) found gives)
 
     pub by-marks : {calendar : List ℕ} {day : ℕ} → look ≡ NextDay day → {i sent : ℕ} {c : Book} {after : List ℕ}
-        → Sofar calendar day (b .count) (b .files) buffer i sent c after → b .count ≤ i
+        → Marking calendar day (dated day b) buffer i sent c after → b .count ≤ i
         → Made calendar b bytes buffer (record { answer = Accepted; sent = sent; book = c; numbers = numbers; buffer = after })
-    by-marks {calendar} {day} is {i} {sent} {c} {after} s end =
-        let tidy = well-kept .tidy in
-        in-place
-        (marked-in-place calendar b bytes buffer after day sent c (t .kept) (t .room) (known (NextDay day) is)
-        (sofar-book calendar day b tidy buffer i sent c after s end) (sofar-wrote calendar day b tidy buffer i sent c after s end))
+    by-marks {calendar} {day} is {i} {sent} {c} {after} m end =
+        in-place (marked-in-place calendar b bytes buffer after day sent c (t .kept) (t .room) (known (NextDay day) is) (mark-book m end) (mark-wrote m end))

@@ -6,16 +6,17 @@ use mathlib.Core.Logic.{inl, inr, ⊎-elim}
 use native.Mathlib.Omega.{arith}
 use lib.ListN.{length, take, drop}
 use Rattle.book.specs.Book.{mostFiles}
+use Rattle.book_marks.proofs.Marking.{Marking, mark-none}
+use Rattle.book_marks.proofs.Turns.{mark-place, mark-tidy, mark-room, mark-more, mark-still}
 use Rattle.tape_stretches.proofs.Stretching.{stretching-length, stretching-within, stretching-closes}
-use Rattle.tape_stretches.proofs.Ways.{Made, made-as, each-place, look-asks, by-refusal, held-place, held-asks, by-file, by-marks, call-asks}
-use Rattle.tape_stretches.proofs.Marking.{Marking, mark-none, mark-place, mark-tidy, mark-room, mark-more, mark-still}
+use Rattle.tape_stretches.proofs.Ways.{Made, made-as, each-place, look-asks, by-refusal, held-place, held-asks, by-file, day-asks, by-marks, call-asks}
 use Rattle.tape_stretches.proofs.Turns.{of, Turn, turn-none, standing, turn-tells, turn-more}
 use Rattle.tape_player.proofs.play_on.Statement.{statement}
 use Rattle.tape_player.proofs.play_on.Tie as tie
 
 abbrev Inv-loop2 : tie.InvT-loop2
 Inv-loop2 calendar tape notices₀ out b₀ reader numbers stop from to count answer sent₀ day business last place₀ notices b sent place =
-    Marking calendar day (b₀ .count) (b₀ .files) numbers notices₀ place sent b notices
+    Marking calendar day b₀ notices₀ place sent b notices
 
 abbrev μ-loop2 : tie.MeasureT-loop2
 μ-loop2 calendar tape notices₀ out b₀ reader numbers stop from to count answer sent₀ day business last place₀ notices b sent place = count - place
@@ -48,7 +49,7 @@ held-call-requires c κs =
 
 -- ---- the record marks the next day
 loop2-holds : tie.Need-loop2-holds Inv-loop2 μ-loop2 Inv-loop μ-loop
-loop2-holds c = mark-none _ _ (standing (c .before .before .before .before .before .before .before .before .before .before .before .loop .inv))
+loop2-holds c = mark-none _ _ _ _ (day-asks (standing (c .before .before .before .before .before .before .before .before .before .before .before .loop .inv)) _ _)
 
 is-touched-requires : tie.Need-is-touched-requires Inv-loop2 μ-loop2 Inv-loop μ-loop
 is-touched-requires c κs = let i = c .before in mark-tidy (i .before .loop2 .inv) (i .loop2-test .taken)
@@ -70,7 +71,7 @@ loop2-again-2 c =
     let u = c .before in
     let i = u .before .before in
     let n = i .before .before in
-    mark-still (i .before .loop2 .inv) (i .loop2-test .taken) _ _ _ (n .before .is-business-day .ensures) (n .last-in-window .ensures) (u .is-touched .ensures) (c .if2 .left)
+    mark-still (i .before .loop2 .inv) (i .loop2-test .taken) _ (n .before .is-business-day .ensures) (n .last-in-window .ensures) (u .is-touched .ensures) (c .if2 .left)
 
 -- the file at the place reached stands in the book
 marks-within : (i : tie.In-loop2 Inv-loop2 μ-loop2 Inv-loop μ-loop) → i .before .loop2 .place < mostFiles
@@ -97,7 +98,7 @@ made c =
     (by-file v _ (k .look-up .ensures) (x .1 .given .1) (x .5 .result) (x .5 .ensures)))
     (⊎-elim
     (λ x. made-as (λ i. record { answer = x .10 i; sent = x .11 i; book = x .8 i; numbers = x .9 i; buffer = x .7 i })
-    (by-marks v _ (k .look-up .ensures) (x .1 .given .1) (x .5 .inv .sofar) (x .6 .left)))
+    (by-marks v _ (k .look-up .ensures) (x .1 .given .1) (x .5 .inv) (x .6 .left)))
     (λ x. made-as (λ i. record { answer = x .11 i; sent = x .12 i; book = x .9 i; numbers = x .10 i; buffer = x .8 i })
     (record { promised = x .3 .ensures; own = x .7 .ensures }))))
     (c .match .came)

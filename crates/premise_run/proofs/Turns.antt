@@ -19,14 +19,17 @@ use Rattle.premise.proofs.KeptFiles.{length-held, length-orders}
 use Rattle.premise.proofs.Places.{withPlaces}
 use Rattle.premise_run.proofs.Passes.{pass-orders, pass-notices, length-pass}
 
--- a pass after i turns: the first i orders are done, their notices sent
+-- a pass after i turns, on a tidy file with room for the notices: the first i orders are done, their notices sent
 pub record Sofar (step : ℕ → Order → Change) (file : File) (standing : ℕ) (b : List ℕ) (i sent : ℕ) (out : File) (c : List ℕ) : Type 0 where
+  pub tidy : Tidy file
+  pub room : Room standing (pass step (held file) .notices) b
   pub within : i ≤ file .count
   pub here : out ≡ withPlaces file (file .count) (pass step (take i (held file)) .orders ++ drop i (file .orders))
   pub wrote : Writes standing b c sent (pass step (take i (held file)) .notices)
 
-pub sofar-none : (step : ℕ → Order → Change) (file : File) (standing : ℕ) (b : List ℕ) → Sofar step file standing b 0 standing file b
-sofar-none step file standing b = record { within = omega arith; here = refl; wrote = writes-none standing b }
+pub sofar-none : {step : ℕ → Order → Change} {file : File} {standing : ℕ} {b : List ℕ} → Tidy file → Room standing (pass step (held file) .notices) b
+    → Sofar step file standing b 0 standing file b
+sofar-none {standing = standing} {b = b} tidy room = record { tidy = tidy; room = room; within = omega arith; here = refl; wrote = writes-none standing b }
 
 -- one order more, stored in its place
 set-turn : (done old : List Order) (i : ℕ) (o : Order) → length done ≡ i → i < length old → set (done ++ drop i old) i o ≡ (done ++ (o ∷ [])) ++ drop (i + 1) old
@@ -36,106 +39,108 @@ set-turn done old i o l h =
     ∙ sym (append-snoc done o (drop (suc i) old))
     ∙ ap (λ (n : ℕ). (done ++ (o ∷ [])) ++ drop n old) (sym (add-one i))
 
-module _ (step : ℕ → Order → Change) (file : File) (tidy : Tidy file) where
-  module _ (i : ℕ) (h : i < file .count) where
-    -- the order at a place, and what the step does to it
+module _ {step : ℕ → Order → Change} {file : File} {standing : ℕ} {b : List ℕ} {i sent : ℕ} {out : File} {c : List ℕ} (s : Sofar step file standing b i sent out c) where
+  -- the first i orders, done, and their notices
+  abbrev done : List Order
+  done = pass step (take i (held file)) .orders
+
+  abbrev told : List Notice
+  told = pass step (take i (held file)) .notices
+
+  -- room for the notices of the first k orders
+  room-for : (k : ℕ) → Room standing (pass step (take k (held file)) .notices) b
+  room-for k =
+      room-first standing b (pass step (take k (held file)) .notices) (passFrom step (0 + length (take k (held file))) (drop k (held file)) .notices)
+      (subst (λ (l : List Notice). Room standing l b)
+      (ap (λ (l : List Order). pass step l .notices) (sym (take-append-drop k (held file))) ∙ pass-notices step 0 (take k (held file)) (drop k (held file)))
+      (s .room))
+
+  pub sofar-length : length c ≡ length b
+  sofar-length = writes-length standing b told (room-for i) c sent (s .wrote)
+
+  -- ---- an order is left
+  module _ (h : i < file .count) where
     abbrev o : Order
     o = getD (file .orders) i blank
 
-    at-place : 0 + length (take i (held file)) ≡ i
-    at-place = omega (arith, length-take i (held file), length-held file tidy)
+    inside : i < length (file .orders)
+    inside = omega (arith, length-orders file (s .tidy), s .tidy .few)
 
-    -- the first i + 1 orders
+    at-place : 0 + length (take i (held file)) ≡ i
+    at-place = omega (arith, length-take i (held file), length-held file (s .tidy))
+
+    -- with it the first i + 1 orders
     held-more : take (i + 1) (held file) ≡ take i (held file) ++ (o ∷ [])
     held-more =
-        let n = length-held file tidy in
+        let n = length-held file (s .tidy) in
         rw (add-one i, take-suc (held file) i blank (omega arith), getD-take (file .count) (file .orders) i blank h)
 
-    orders-more : pass step (take (i + 1) (held file)) .orders ≡ pass step (take i (held file)) .orders ++ (step i o .order ∷ [])
-    orders-more =
+    done-more : pass step (take (i + 1) (held file)) .orders ≡ done ++ (step i o .order ∷ [])
+    done-more =
         ap (λ (l : List Order). pass step l .orders) held-more
         ∙ pass-orders step 0 (take i (held file)) (o ∷ [])
-        ∙ ap (λ (n : ℕ). pass step (take i (held file)) .orders ++ (step n o .order ∷ [])) at-place
+        ∙ ap (λ (n : ℕ). done ++ (step n o .order ∷ [])) at-place
 
-    notices-more : pass step (take (i + 1) (held file)) .notices ≡ pass step (take i (held file)) .notices ++ step i o .notices
-    notices-more =
+    told-more : pass step (take (i + 1) (held file)) .notices ≡ told ++ step i o .notices
+    told-more =
         ap (λ (l : List Order). pass step l .notices) held-more
         ∙ pass-notices step 0 (take i (held file)) (o ∷ [])
-        ∙ ap (λ (n : ℕ). pass step (take i (held file)) .notices ++ (step n o .notices ++ [])) at-place
-        ∙ ap (λ (l : List Notice). pass step (take i (held file)) .notices ++ l) (append-nil (step i o .notices))
+        ∙ ap (λ (n : ℕ). told ++ (step n o .notices ++ [])) at-place
+        ∙ ap (λ (l : List Notice). told ++ l) (append-nil (step i o .notices))
 
-  -- the notices: those of the first i orders, and the others
-  notices-split : (i : ℕ) → i ≤ file .count → pass step (held file) .notices ≡ pass step (take i (held file)) .notices ++ passFrom step (0 + length (take i (held file))) (drop i (held file)) .notices
-  notices-split i h =
-      ap (λ (l : List Order). pass step l .notices) (sym (take-append-drop i (held file)))
-      ∙ pass-notices step 0 (take i (held file)) (drop i (held file))
+    room-more : Room standing (told ++ step i o .notices) b
+    room-more = subst (λ (l : List Notice). Room standing l b) told-more (room-for (i + 1))
 
-  module _ (standing : ℕ) (b : List ℕ) (room : Room standing (pass step (held file) .notices) b) where
-    -- room for the notices of the first i orders
-    room-sofar : (i : ℕ) → i ≤ file .count → Room standing (pass step (take i (held file)) .notices) b
-    room-sofar i h =
-        room-first standing b (pass step (take i (held file)) .notices) (passFrom step (0 + length (take i (held file))) (drop i (held file)) .notices)
-        (subst (λ (l : List Notice). Room standing l b) (notices-split i h) room)
+    -- room for its notices
+    pub sofar-room : Room sent (step i (getD (file .orders) i blank) .notices) c
+    sofar-room = room-then standing b told (step i o .notices) room-more c sent (s .wrote)
 
-    module _ (i sent : ℕ) (out : File) (c : List ℕ) (s : Sofar step file standing b i sent out c) where
-      pub sofar-length : length c ≡ length b
-      sofar-length = writes-length standing b (pass step (take i (held file)) .notices) (room-sofar i (s .within)) c sent (s .wrote)
+    -- one turn
+    pub sofar-turn : (r : Stepped) {d : List ℕ} → DoneToOrder (step i (getD (file .orders) i blank)) sent r c d
+        → Sofar step file standing b (i + 1) (r .sent) (withPlaces out (out .count) (set (out .orders) i (r .order))) d
+    sofar-turn r {d} did =
+        let l : length done ≡ i = length-pass step 0 (take i (held file)) ∙ omega (arith, at-place) in
+        record {
+          tidy = s .tidy;
+          room = s .room;
+          within = omega arith;
+          here =
+              ap (λ (x : File). withPlaces x (x .count) (set (x .orders) i (r .order))) (s .here)
+              ∙ ap (withPlaces file (file .count))
+              (set-turn done (file .orders) i (r .order) l inside
+              ∙ ap (λ (x : Order). (done ++ (x ∷ [])) ++ drop (i + 1) (file .orders)) (did .order)
+              ∙ ap (λ (x : List Order). x ++ drop (i + 1) (file .orders)) (sym done-more));
+          wrote =
+              subst⁻¹ (λ (l : List Notice). Writes standing b d (r .sent) l) told-more
+              (writes-then standing b told (step i o .notices) room-more c sent (s .wrote) d (r .sent) (did .wrote));
+        }
 
-      module _ (h : i < file .count) where
-        room-more : Room standing (pass step (take i (held file)) .notices ++ step i (o i h) .notices) b
-        room-more = subst (λ (l : List Notice). Room standing l b) (notices-more i h) (room-sofar (i + 1) (omega arith))
+    -- a turn on an order that the step leaves as it is: nothing is stored and nothing sent
+    pub sofar-leaves : step i (getD (file .orders) i blank) ≡ same (getD (file .orders) i blank) → Sofar step file standing b (i + 1) sent out c
+    sofar-leaves e =
+        record {
+          tidy = s .tidy;
+          room = s .room;
+          within = omega arith;
+          here =
+              s .here
+              ∙ ap (λ (l : List Order). withPlaces file (file .count) (done ++ l)) (drop-cons (file .orders) i blank inside)
+              ∙ ap (withPlaces file (file .count))
+              (sym (append-snoc done o (drop (suc i) (file .orders)))
+              ∙ ap₂ (λ (x : Order) (n : ℕ). (done ++ (x ∷ [])) ++ drop n (file .orders)) (sym (ap (λ (x : Change). x .order) e)) (sym (add-one i))
+              ∙ ap (λ (x : List Order). x ++ drop (i + 1) (file .orders)) (sym done-more));
+          wrote = subst⁻¹ (λ (l : List Notice). Writes standing b c sent l) (told-more ∙ ap (λ (x : Change). told ++ x .notices) e ∙ append-nil told) (s .wrote);
+        }
 
-        -- room for the notices of the next order
-        pub sofar-room : Room sent (step i (getD (file .orders) i blank) .notices) c
-        sofar-room = room-then standing b (pass step (take i (held file)) .notices) (step i (o i h) .notices) room-more c sent (s .wrote)
-
-        -- one turn
-        pub sofar-turn : (r : Stepped) (d : List ℕ) → DoneToOrder (step i (getD (file .orders) i blank)) sent r c d
-            → Sofar step file standing b (i + 1) (r .sent) (withPlaces out (out .count) (set (out .orders) i (r .order))) d
-        sofar-turn r d done =
-            let l : length (pass step (take i (held file)) .orders) ≡ i = length-pass step 0 (take i (held file)) ∙ omega (arith, at-place i h) in
-            record {
-              within = omega arith;
-              here =
-                  ap (λ (x : File). withPlaces x (x .count) (set (x .orders) i (r .order))) (s .here)
-                  ∙ ap (withPlaces file (file .count))
-                  (set-turn (pass step (take i (held file)) .orders) (file .orders) i (r .order) l (omega (arith, length-orders file tidy, tidy .few))
-                  ∙ ap (λ (x : Order). (pass step (take i (held file)) .orders ++ (x ∷ [])) ++ drop (i + 1) (file .orders)) (done .order)
-                  ∙ ap (λ (x : List Order). x ++ drop (i + 1) (file .orders)) (sym (orders-more i h)));
-              wrote =
-                  subst⁻¹ (λ (l : List Notice). Writes standing b d (r .sent) l) (notices-more i h)
-                  (writes-then standing b (pass step (take i (held file)) .notices) (step i (o i h) .notices) room-more c sent (s .wrote) d (r .sent) (done .wrote));
-            }
-
-  -- a turn on an order that the step leaves as it is: nothing is stored and nothing sent
-  pub sofar-leaves : (standing : ℕ) (b : List ℕ) (i sent : ℕ) (out : File) (c : List ℕ) → Sofar step file standing b i sent out c → (h : i < file .count)
-      → step i (getD (file .orders) i blank) ≡ same (getD (file .orders) i blank) → Sofar step file standing b (i + 1) sent out c
-  sofar-leaves standing b i sent out c s h e =
-      let done = pass step (take i (held file)) in
-      record {
-        within = omega arith;
-        here =
-            s .here
-            ∙ ap (λ (l : List Order). withPlaces file (file .count) (done .orders ++ l)) (drop-cons (file .orders) i blank (omega (arith, length-orders file tidy, tidy .few)))
-            ∙ ap (withPlaces file (file .count))
-            (sym (append-snoc (done .orders) (o i h) (drop (suc i) (file .orders)))
-            ∙ ap₂ (λ (x : Order) (n : ℕ). (done .orders ++ (x ∷ [])) ++ drop n (file .orders)) (sym (ap (λ (x : Change). x .order) e)) (sym (add-one i))
-            ∙ ap (λ (x : List Order). x ++ drop (i + 1) (file .orders)) (sym (orders-more i h)));
-        wrote =
-            subst⁻¹ (λ (l : List Notice). Writes standing b c sent l)
-            (notices-more i h ∙ ap (λ (x : Change). done .notices ++ x .notices) e ∙ append-nil (done .notices)) (s .wrote);
-      }
-
-  -- after the last turn the pass is done
-  pub sofar-all : (standing : ℕ) (b : List ℕ) (i sent : ℕ) (out : File) (c : List ℕ) → Sofar step file standing b i sent out c → file .count ≤ i
-      → DoneToFile (onFile file (pass step (held file))) standing (record { file = out; sent = sent }) b c
+  -- ---- none is left: the pass is done
+  pub sofar-all : file .count ≤ i → DoneToFile (onFile file (pass step (held file))) standing (record { file = out; sent = sent }) b c
   unfolding places
-  sofar-all standing b i sent out c s e =
-      let n = length-held file tidy in
+  sofar-all e =
+      let n = length-held file (s .tidy) in
       let t : take i (held file) ≡ held file = take-all i (held file) (omega arith) in
       let m : length (held file) ≡ i = omega (arith, s .within) in
       let w : drop i (file .orders) ≡ replicate (mostOrders - length (pass step (held file) .orders)) blank =
-      ap (drop i) (tidy .whole) ∙ drop-at (held file) (replicate (mostOrders - length (held file)) blank) i m
+      ap (drop i) (s .tidy .whole) ∙ drop-at (held file) (replicate (mostOrders - length (held file)) blank) i m
       ∙ ap (λ (k : ℕ). replicate (mostOrders - k) blank) (sym (length-pass step 0 (held file))) in
       record {
         file =

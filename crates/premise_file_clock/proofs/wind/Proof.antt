@@ -4,9 +4,8 @@ use Prim.Native.Nat.{ℕ, _-_}
 use mathlib.Core.Path.{sym, subst, subst⁻¹, _∙_}
 use mathlib.Core.Bool.{Bool}
 use borrow.Author.Needs.{needs}
-use Rattle.premise.specs.declared.Order.{Order}
 use Rattle.premise.specs.Orders.{held}
-use Rattle.premise.specs.Passes.{Change, pass, onFile}
+use Rattle.premise.specs.Passes.{pass, onFile}
 use Rattle.premise.specs.Clock.{ticked}
 use Rattle.premise.specs.Promises.{Room, DoneToFile}
 use Rattle.premise_moves.proofs.Moves.{tick-still}
@@ -21,27 +20,15 @@ Inv-loop calendar today standing buffer₀ file business n out₀ sent₀ i₀ b
 abbrev μ-loop : tie.MeasureT-loop
 μ-loop calendar today standing buffer₀ file business n out₀ sent₀ i₀ buffer out sent i = n - i
 
--- the step, as the loop has it
-abbrev step : tie.At-loop Inv-loop μ-loop → ℕ → Order → Change
-step l i =
-    let w = l .before in
-    let a = w .before .before .before .args in
-    ticked (w .is-business-day .result) (a .today) (a .t3 .premise)
-
--- the room that is asked, by what was found of today
-room : (l : tie.At-loop Inv-loop μ-loop) → let a = l .before .before .before .before .args in
-    Room (a .standing) (pass (step l) (held (a .t3)) .notices) (a .buffer .now)
-room l =
-    let w = l .before in
-    let s = w .before .before .before in
-    let a = s .args in
-    subst⁻¹ (λ (business : Bool). Room (a .standing) (pass (λ (i : ℕ). ticked business (a .today) (a .t3 .premise)) (held (a .t3)) .notices) (a .buffer .now)) (w .is-business-day .ensures) (s .pre .1)
-
 is-business-day-requires : tie.Need-is-business-day-requires Inv-loop μ-loop
 is-business-day-requires c κs = search needs
 
 loop-holds : tie.Need-loop-holds Inv-loop μ-loop
-loop-holds c = sofar-none _ _ _ _
+loop-holds c =
+    let s = c .before .before .before in
+    let a = s .args in
+    sofar-none (s .pre .0)
+    (subst⁻¹ (λ (business : Bool). Room (a .standing) (pass (λ (i : ℕ). ticked business (a .today) (a .t3 .premise)) (held (a .t3)) .notices) (a .buffer .now)) (c .is-business-day .ensures) (s .pre .1))
 
 mul-o : tie.Need-mul-o Inv-loop μ-loop
 mul-o c = search needs
@@ -56,12 +43,7 @@ is-moving-requires : tie.Need-is-moving-requires Inv-loop μ-loop
 is-moving-requires c κs = search needs
 
 tick-requires : tie.Need-tick-requires Inv-loop μ-loop
-tick-requires c κs =
-    let p = c .before .before .before .before in
-    let l = p .before in
-    let s = l .before .before .before .before in
-    let a = s .args in
-    sofar-room (step l) (a .t3) (s .pre .0) (a .standing) (a .buffer .now) (room l) (l .loop .i) (l .loop .sent) (l .loop .out) (l .loop .buffer) (l .loop .inv) (p .loop-test .taken)
+tick-requires c κs = let p = c .before .before .before .before in sofar-room (p .before .loop .inv) (p .loop-test .taken)
 
 mul-t : tie.Need-mul-t Inv-loop μ-loop
 mul-t c = search needs
@@ -76,11 +58,7 @@ loop-again : tie.Need-loop-again Inv-loop μ-loop
 loop-again c =
     let k = c .before .before .before in
     let p = k .before .before .before .before .before in
-    let l = p .before in
-    let s = l .before .before .before .before in
-    let a = s .args in
-    sofar-turn (step l) (a .t3) (s .pre .0) (a .standing) (a .buffer .now) (room l) (l .loop .i) (l .loop .sent) (l .loop .out) (l .loop .buffer) (l .loop .inv) (p .loop-test .taken)
-    (k .tick .result) _ (k .tick .ensures)
+    sofar-turn (p .before .loop .inv) (p .loop-test .taken) (k .tick .result) (k .tick .ensures)
 
 loop-less-2 : tie.Need-loop-less-2 Inv-loop μ-loop
 loop-less-2 c = search needs
@@ -89,18 +67,10 @@ loop-again-2 : tie.Need-loop-again-2 Inv-loop μ-loop
 loop-again-2 c =
     let m = c .before in
     let p = m .before .before in
-    let l = p .before in
-    let s = l .before .before .before .before in
-    let a = s .args in
-    sofar-leaves (step l) (a .t3) (s .pre .0) (a .standing) (a .buffer .now) (l .loop .i) (l .loop .sent) (l .loop .out) (l .loop .buffer) (l .loop .inv) (p .loop-test .taken)
-    (tick-still _ _ _ (a .t3 .premise) (sym (m .is-moving .ensures) ∙ c .if1 .left))
+    sofar-leaves (p .before .loop .inv) (p .loop-test .taken) (tick-still _ _ _ _ (sym (m .is-moving .ensures) ∙ c .if1 .left))
 
 same-length : tie.Need-same-length Inv-loop μ-loop
-same-length c =
-    let l = c .before in
-    let s = l .before .before .before .before in
-    let a = s .args in
-    sofar-length (step l) (a .t3) (s .pre .0) (a .standing) (a .buffer .now) (room l) (l .loop .i) (l .loop .sent) (l .loop .out) (l .loop .buffer) (l .loop .inv)
+same-length c = sofar-length (c .before .loop .inv)
 
 returns : tie.Need-returns Inv-loop μ-loop
 returns c =
@@ -109,7 +79,7 @@ returns c =
     let s = w .before .before .before in
     let a = s .args in
     subst (λ (business : Bool). DoneToFile (onFile (a .t3) (pass (λ (i : ℕ). ticked business (a .today) (a .t3 .premise)) (held (a .t3)))) (a .standing) (record { file = l .loop .out; sent = l .loop .sent }) (a .buffer .now) (l .loop .buffer)) (w .is-business-day .ensures)
-    (sofar-all (step l) (a .t3) (s .pre .0) (a .standing) (a .buffer .now) (l .loop .i) (l .loop .sent) (l .loop .out) (l .loop .buffer) (l .loop .inv) (c .loop-test .left))
+    (sofar-all (l .loop .inv) (c .loop-test .left))
 
 pub wind-spec : {M : Type 1} → statement M
 wind-spec =

@@ -1,11 +1,9 @@
 -- `premise_run::run` meets its contract. The loop's invariant: the orders before the one reached are done, their notices sent.
 -- The measure is the places left. Assumes nothing.
-use Prim.Native.Nat.{ℕ, _-_}
+use Prim.Native.Nat.{_-_}
 use borrow.Author.Needs.{needs}
 use Rattle.days.specs.Window.{upTo}
-use Rattle.premise.specs.declared.Order.{Order}
 use Rattle.premise.specs.Orders.{held}
-use Rattle.premise.specs.Passes.{Change}
 use Rattle.premise_run.specs.Which.{stepOf}
 use Rattle.premise_run.proofs.Turns.{Sofar, sofar-none, sofar-length, sofar-room, sofar-turn, sofar-all}
 use Rattle.premise_run.proofs.run.Statement.{statement}
@@ -18,14 +16,8 @@ Inv-loop which today last standing buffer₀ file n out₀ sent₀ i₀ buffer o
 abbrev μ-loop : tie.MeasureT-loop
 μ-loop which today last standing buffer₀ file n out₀ sent₀ i₀ buffer out sent i = n - i
 
--- the step, as the loop has it
-abbrev step : tie.At-loop Inv-loop μ-loop → ℕ → Order → Change
-step l =
-    let a = l .before .before .args in
-    stepOf (a .which) (upTo (a .last)) (a .today) (a .t4 .premise) (a .t4 .retailer) (held (a .t4))
-
 loop-holds : tie.Need-loop-holds Inv-loop μ-loop
-loop-holds c = sofar-none _ _ _ _
+loop-holds c = let s = c .before in sofar-none (s .pre .0) (s .pre .1)
 
 mul-change : tie.Need-mul-change Inv-loop μ-loop
 mul-change c = search needs
@@ -35,10 +27,9 @@ element-copy-out-change c = search needs
 
 change-requires : tie.Need-change-requires Inv-loop μ-loop
 change-requires c κs =
-    let l = c .before .before .before in
-    let s = l .before .before in
-    let a = s .args in
-    (s .pre .0, sofar-room (step l) (a .t4) (s .pre .0) (a .standing) (a .buffer .now) (s .pre .1) (l .loop .i) (l .loop .sent) (l .loop .out) (l .loop .buffer) (l .loop .inv) (c .before .before .loop-test .taken))
+    let p = c .before .before in
+    let l = p .before in
+    (l .before .before .pre .0, sofar-room (l .loop .inv) (p .loop-test .taken))
 
 mul-t : tie.Need-mul-t Inv-loop μ-loop
 mul-t c = search needs
@@ -55,25 +46,14 @@ loop-less c = search needs
 loop-again : tie.Need-loop-again Inv-loop μ-loop
 loop-again c =
     let k = c .before .before .before in
-    let l = k .before .before .before .before in
-    let s = l .before .before in
-    let a = s .args in
-    sofar-turn (step l) (a .t4) (s .pre .0) (a .standing) (a .buffer .now) (s .pre .1) (l .loop .i) (l .loop .sent) (l .loop .out) (l .loop .buffer) (l .loop .inv) (k .before .before .before .loop-test .taken)
-    (k .change .result) _ (k .change .ensures)
+    let p = k .before .before .before in
+    sofar-turn (p .before .loop .inv) (p .loop-test .taken) (k .change .result) (k .change .ensures)
 
 same-length : tie.Need-same-length Inv-loop μ-loop
-same-length c =
-    let l = c .before in
-    let s = l .before .before in
-    let a = s .args in
-    sofar-length (step l) (a .t4) (s .pre .0) (a .standing) (a .buffer .now) (s .pre .1) (l .loop .i) (l .loop .sent) (l .loop .out) (l .loop .buffer) (l .loop .inv)
+same-length c = sofar-length (c .before .loop .inv)
 
 returns : tie.Need-returns Inv-loop μ-loop
-returns c =
-    let l = c .before in
-    let s = l .before .before in
-    let a = s .args in
-    sofar-all (step l) (a .t4) (s .pre .0) (a .standing) (a .buffer .now) (l .loop .i) (l .loop .sent) (l .loop .out) (l .loop .buffer) (l .loop .inv) (c .loop-test .left)
+returns c = sofar-all (c .before .loop .inv) (c .loop-test .left)
 
 pub run-spec : {M : Type 1} → statement M
 run-spec =

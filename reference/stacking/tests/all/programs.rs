@@ -1,10 +1,8 @@
 //! The programs beside the tape program, run as programs.
 
+use crate::support::{folder, played, printed, run_on};
 use stacking::record::{decode, RECORD_BYTES};
-use stacking::tape::play;
-use std::io::Write;
-use std::path::PathBuf;
-use std::process::{Command, Output, Stdio};
+use std::process::{Command, Output};
 
 const RANDOMTAPE: &str = env!("CARGO_BIN_EXE_randomtape");
 const CALLCHECK: &str = env!("CARGO_BIN_EXE_callcheck");
@@ -13,46 +11,17 @@ const TAPE: &str = env!("CARGO_BIN_EXE_tape");
 
 /// Runs a program with its arguments in one line.
 fn run(program: &str, arguments: &str, input: &[u8]) -> Output {
-    let mut child = Command::new(program)
-        .args(arguments.split_whitespace())
-        .stdin(Stdio::piped())
-        .stdout(Stdio::piped())
-        .stderr(Stdio::piped())
-        .spawn()
-        .unwrap();
-    let mut stdin = child.stdin.take().unwrap();
-    let input = input.to_vec();
-    // a program that does not read its input closes the pipe
-    let writer = std::thread::spawn(move || drop(stdin.write_all(&input)));
-    let output = child.wait_with_output().unwrap();
-    writer.join().unwrap();
-    output
+    let mut command = Command::new(program);
+    run_on(command.args(arguments.split_whitespace()), &[input])
 }
 
 /// What a run that succeeds prints.
 fn output(program: &str, arguments: &str, input: &[u8]) -> Vec<u8> {
-    let output = run(program, arguments, input);
-    let message = String::from_utf8_lossy(&output.stderr).into_owned();
-    assert!(output.status.success() && message.is_empty(), "{message}");
-    output.stdout
+    printed(run(program, arguments, input))
 }
 
 fn text(program: &str, arguments: &str, input: &[u8]) -> String {
     String::from_utf8(output(program, arguments, input)).unwrap()
-}
-
-/// A folder of its own for a test.
-fn folder(name: &str) -> PathBuf {
-    let path = PathBuf::from(env!("CARGO_TARGET_TMPDIR")).join(name);
-    let _ = std::fs::remove_dir_all(&path);
-    std::fs::create_dir_all(&path).unwrap();
-    path
-}
-
-fn played(calendar: &[u8], tape: &[u8]) -> String {
-    let mut out = Vec::new();
-    play(calendar, tape, &mut out).unwrap();
-    String::from_utf8(out).unwrap()
 }
 
 #[test]

@@ -1,10 +1,11 @@
 //! The tape program, as a function and as a program.
 
 use crate::support::*;
-use stacking::tape::{play, TAPE_BYTES};
-use std::io::Write;
-use std::path::PathBuf;
-use std::process::{Command, Output, Stdio};
+use stacking::tape::TAPE_BYTES;
+use std::path::{Path, PathBuf};
+use std::process::{Command, Output};
+
+const TAPE: &str = env!("CARGO_BIN_EXE_tape");
 
 /// Document 01's tape and what it prints.
 fn document_tape() -> Vec<u8> {
@@ -30,12 +31,6 @@ n 4 3 0 1 7 101
 p 7 202 0
 t 4 0
 ";
-
-fn played(calendar: &[u8], tape: &[u8]) -> String {
-    let mut out = Vec::new();
-    play(calendar, tape, &mut out).unwrap();
-    String::from_utf8(out).unwrap()
-}
 
 #[test]
 fn the_documents_tape() {
@@ -68,71 +63,38 @@ fn files_are_listed_in_rising_premise_number() {
     assert_eq!(played(&[], &tape), lines);
 }
 
-/// A folder of its own for a run of the program.
-struct Folder(PathBuf);
-
-impl Folder {
-    fn new(name: &str) -> Folder {
-        let path = PathBuf::from(env!("CARGO_TARGET_TMPDIR")).join(name);
-        let _ = std::fs::remove_dir_all(&path);
-        std::fs::create_dir_all(&path).unwrap();
-        Folder(path)
-    }
-
-    fn with_calendar(name: &str, calendar: &[u8]) -> Folder {
-        let folder = Folder::new(name);
-        std::fs::write(folder.0.join("calendar.bin"), calendar).unwrap();
-        folder
-    }
-
-    /// Runs the program with the tape coming in these pieces.
-    fn run(&self, pieces: &[&[u8]]) -> Output {
-        let mut child = Command::new(env!("CARGO_BIN_EXE_tape"))
-            .current_dir(&self.0)
-            .stdin(Stdio::piped())
-            .stdout(Stdio::piped())
-            .stderr(Stdio::piped())
-            .spawn()
-            .unwrap();
-        let mut stdin = child.stdin.take().unwrap();
-        for piece in pieces {
-            // a program that has read enough, or has given up, closes the pipe
-            if stdin.write_all(piece).and_then(|()| stdin.flush()).is_err() {
-                break;
-            }
-        }
-        drop(stdin);
-        child.wait_with_output().unwrap()
-    }
+fn with_calendar(name: &str, calendar: &[u8]) -> PathBuf {
+    let folder = folder(name);
+    std::fs::write(folder.join("calendar.bin"), calendar).unwrap();
+    folder
 }
 
-fn text(output: &Output) -> &str {
-    assert!(output.status.success());
-    assert!(output.stderr.is_empty());
-    std::str::from_utf8(&output.stdout).unwrap()
+/// Runs the program in a folder, the tape coming in these pieces.
+fn run(folder: &Path, pieces: &[&[u8]]) -> Output {
+    run_on(Command::new(TAPE).current_dir(folder), pieces)
 }
 
 #[test]
 fn the_program_plays_the_documents_tape_in_any_pieces() {
-    let folder = Folder::with_calendar("pieces", &business_days());
+    let folder = with_calendar("pieces", &business_days());
     let tape = document_tape();
-    assert_eq!(text(&folder.run(&[&tape])), DOCUMENT_TEXT);
+    assert_eq!(text(run(&folder, &[&tape])), DOCUMENT_TEXT);
     let bytes: Vec<&[u8]> = tape.chunks(1).collect();
-    assert_eq!(text(&folder.run(&bytes)), DOCUMENT_TEXT);
+    assert_eq!(text(run(&folder, &bytes)), DOCUMENT_TEXT);
 }
 
 #[test]
 fn an_absent_calendar_counts_as_empty() {
-    let folder = Folder::new("absent");
+    let folder = folder("absent");
     let lines = "1 0 0\n2 10 0\n3 13 0\n4 13 0\np 7 101 0\nt 1 3\n";
-    assert_eq!(text(&folder.run(&[&document_tape()])), lines);
+    assert_eq!(text(run(&folder, &[&document_tape()])), lines);
 }
 
 #[test]
 fn an_unreadable_calendar_ends_the_program() {
-    let folder = Folder::new("unreadable");
-    std::fs::create_dir(folder.0.join("calendar.bin")).unwrap();
-    let output = folder.run(&[&document_tape()]);
+    let folder = folder("unreadable");
+    std::fs::create_dir(folder.join("calendar.bin")).unwrap();
+    let output = run(&folder, &[&document_tape()]);
     assert!(!output.status.success());
     assert!(output.stdout.is_empty());
     let message = String::from_utf8(output.stderr).unwrap();
@@ -143,26 +105,20 @@ fn an_unreadable_calendar_ends_the_program() {
 fn only_the_first_bytes_are_read() {
     let mut calendar = vec![2; 4_096];
     calendar.extend([0; 100]);
-    let folder = Folder::with_calendar("first", &calendar);
+    let folder = with_calendar("first", &calendar);
     let mut tape = vec![0; TAPE_BYTES];
     tape[..96].copy_from_slice(&document_tape());
-    let whole = text(&folder.run(&[&tape])).to_owned();
+    let whole = text(run(&folder, &[&tape]));
     assert!(whole.starts_with("1 0 0\n2 10 0\n"));
     assert!(whole.ends_with("2730 3 0\np 7 101 0\nt 1 2729\n"));
     tape.extend(of_premise(8, create(0, 0)));
-    assert_eq!(text(&folder.run(&[&tape])), whole);
+    assert_eq!(text(run(&folder, &[&tape])), whole);
 }
 
 #[test]
 fn it_says_what_is_wrong_with_its_arguments() {
-    let run = |argument: &str| {
-        Command::new(env!("CARGO_BIN_EXE_tape"))
-            .arg(argument)
-            .stdin(Stdio::null())
-            .output()
-            .unwrap()
-    };
-    assert!(text(&run("--help")).contains("usage: tape"));
+    let run = |argument: &str| run_on(Command::new(TAPE).arg(argument), &[]);
+    assert!(text(run("--help")).contains("usage: tape"));
     let wrong = run("some.tape");
     assert!(!wrong.status.success() && wrong.stdout.is_empty());
     assert!(String::from_utf8(wrong.stderr)

@@ -36,16 +36,16 @@ pub changed-tidy : (h : File) → Tidy h → (i : ℕ) (t : Order) (g : File) �
 changed-tidy h tidy i t g e = subst⁻¹ Tidy e (tidy-set h tidy i t)
 
 -- the file with it, and its notices; s is what the code made of the order, h the file with its supply
-module _ (f : File) (r : Record) (i : ℕ) (o : Order) (e : o ≡ getD (held f) i blank) (standing : ℕ) (b : List ℕ) where
-  pub changed-room : Room standing (changed f r i (getD (held f) i blank) .notices) b → Room standing (onOrder f r o .notices) b
+module _ (f : File) (r : Record) (i : ℕ) {o : Order} (e : o ≡ getD (held f) i blank) where
+  pub changed-room : (standing : ℕ) (b : List ℕ) → Room standing (changed f r i (getD (held f) i blank) .notices) b → Room standing (onOrder f r o .notices) b
   unfolding changed
-  changed-room room = subst⁻¹ (λ (x : Order). Room standing (onOrder f r x .notices) b) e room
+  changed-room standing b room = subst⁻¹ (λ (x : Order). Room standing (onOrder f r x .notices) b) e room
 
-  pub changed-done : (s : Stepped) (c : List ℕ) → DoneToOrder (onOrder f r o) standing s b c → (h : File) → h ≡ supplied f r o
-      → (g : File) → g ≡ withOrders h (set (held h) i (s .order))
+  pub changed-done : {standing : ℕ} {s : Stepped} {b c : List ℕ} → DoneToOrder (onOrder f r o) standing s b c → {h : File} → h ≡ supplied f r o
+      → {g : File} → g ≡ withOrders h (set (held h) i (s .order))
       → DoneToFile (changed f r i (getD (held f) i blank)) standing (record { file = g; sent = s .sent }) b c
   unfolding changed
-  changed-done s c done h k g q =
+  changed-done {standing} {s} {b} {c} done k {g} q =
       subst (λ (x : Order). DoneToFile (changed f r i x) standing (record { file = g; sent = s .sent }) b c) e
       (record {
         file =

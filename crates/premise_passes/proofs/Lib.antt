@@ -1,1 +1,2 @@
 pub mod Then
+mod Evaluating

@@ -25,9 +25,8 @@ change-order-requires c κs =
     let s = c .before .before .before .before .before in
     let a = s .args in
     let f = a .t3 in
-    let o = getD (f .orders) (a .i) blank in
-    let e = at-held f (a .i) (s .pre .1) in
-    changed-room f (a .r) (a .i) o e (a .standing) (a .buffer .now) (then-first (changed f (a .r) (a .i) (getD (held f) (a .i) blank)) (evaluated (a .calendar .now) (a .today)) (a .standing) (a .buffer .now) (s .pre .2))
+    changed-room f (a .r) (a .i) (at-held f (a .i) (s .pre .1)) (a .standing) (a .buffer .now)
+    (then-first (changed f (a .r) (a .i) (getD (held f) (a .i) blank)) (evaluated (a .calendar .now) (a .today)) (a .standing) (a .buffer .now) (s .pre .2))
 
 supply-requires : tie.Need-supply-requires
 supply-requires c κs = search needs
@@ -46,11 +45,12 @@ evaluate-requires c κs =
     let s = q .before .before .before .before .before .before in
     let a = s .args in
     let f = a .t3 in
-    let o = getD (f .orders) (a .i) blank in
-    let e = at-held f (a .i) (s .pre .1) in
-    let d = changed-done f (a .r) (a .i) o e (a .standing) (a .buffer .now) (q .change-order .result) _ (q .change-order .ensures) (h .supply .result) (h .supply .ensures) (g .with-order .result) (g .with-order .ensures) in
-    let ready = supplied-ready f (a .r) o (s .pre .0) (a .i) (s .pre .1) (h .supply .result) (h .supply .ensures) in
-    (changed-tidy (h .supply .result) (ready .0) (a .i) (q .change-order .result .order) (g .with-order .result) (g .with-order .ensures), then-room (changed f (a .r) (a .i) (getD (held f) (a .i) blank)) (evaluated (a .calendar .now) (a .today)) (a .standing) (a .buffer .now) (s .pre .2) (record { file = g .with-order .result; sent = q .change-order .result .sent }) _ d, q .before .before .before .last-in-window .ensures)
+    let d = changed-done f (a .r) (a .i) (at-held f (a .i) (s .pre .1)) (q .change-order .ensures) (h .supply .ensures) (g .with-order .ensures) in
+    let ready = supplied-ready f (a .r) (getD (f .orders) (a .i) blank) (s .pre .0) (a .i) (s .pre .1) (h .supply .result) (h .supply .ensures) in (
+      changed-tidy (h .supply .result) (ready .0) (a .i) (q .change-order .result .order) (g .with-order .result) (g .with-order .ensures),
+      then-room (evaluated (a .calendar .now) (a .today)) d (s .pre .2),
+      q .before .before .before .last-in-window .ensures,
+    )
 
 same-length : tie.Need-same-length
 same-length c = search needs
@@ -64,10 +64,8 @@ returns c =
     let s = q .before .before .before .before .before .before in
     let a = s .args in
     let f = a .t3 in
-    let o = getD (f .orders) (a .i) blank in
-    let e = at-held f (a .i) (s .pre .1) in
-    let d = changed-done f (a .r) (a .i) o e (a .standing) (a .buffer .now) (q .change-order .result) _ (q .change-order .ensures) (h .supply .result) (h .supply .ensures) (g .with-order .result) (g .with-order .ensures) in
-    then-done (changed f (a .r) (a .i) (getD (held f) (a .i) blank)) (evaluated (a .calendar .now) (a .today)) (a .standing) (a .buffer .now) (s .pre .2) (record { file = g .with-order .result; sent = q .change-order .result .sent }) _ d (v .evaluate .result) _ (v .evaluate .ensures)
+    let d = changed-done f (a .r) (a .i) (at-held f (a .i) (s .pre .1)) (q .change-order .ensures) (h .supply .ensures) (g .with-order .ensures) in
+    then-done (evaluated (a .calendar .now) (a .today)) d (s .pre .2) (v .evaluate .ensures)
 
 pub accept-named-spec : {M : Type 1} → statement M
 accept-named-spec =

@@ -40,8 +40,11 @@ evaluate-requires c κs =
     let j = g .before in
     let s = j .before .before .before .before in
     let a = s .args in
-    let d = ordered-done (a .calendar .now) (a .today) (a .file) (a .r) (j .new-order .result) (j .new-order .ensures) (g .code-for .result) (g .code-for .ensures) (k .notice-on .result) (k .notice-on .ensures) (m .admit .result) (m .admit .ensures) (a .standing) (a .buffer .now) _ (w .send .result) (w .send .ensures) in
-    (ordered-tidy (a .file) (s .pre .0) (s .pre .1) (j .new-order .result) (m .admit .result) (m .admit .ensures), then-room (ordered (a .calendar .now) (a .today) (a .file) (a .r)) (evaluated (a .calendar .now) (a .today)) (a .standing) (a .buffer .now) (s .pre .3) (record { file = m .admit .result; sent = w .send .result }) _ d, j .before .last-in-window .ensures)
+    let d = ordered-done (a .calendar .now) (a .today) (a .file) (a .r) (j .new-order .ensures) (g .code-for .ensures) (k .notice-on .ensures) (m .admit .ensures) (w .send .ensures) in (
+      ordered-tidy (a .file) (s .pre .0) (s .pre .1) (j .new-order .result) (m .admit .result) (m .admit .ensures),
+      then-room (evaluated (a .calendar .now) (a .today)) d (s .pre .3),
+      j .before .last-in-window .ensures,
+    )
 
 same-length : tie.Need-same-length
 same-length c = search needs
@@ -56,8 +59,8 @@ returns c =
     let j = g .before in
     let s = j .before .before .before .before in
     let a = s .args in
-    let d = ordered-done (a .calendar .now) (a .today) (a .file) (a .r) (j .new-order .result) (j .new-order .ensures) (g .code-for .result) (g .code-for .ensures) (k .notice-on .result) (k .notice-on .ensures) (m .admit .result) (m .admit .ensures) (a .standing) (a .buffer .now) _ (w .send .result) (w .send .ensures) in
-    then-done (ordered (a .calendar .now) (a .today) (a .file) (a .r)) (evaluated (a .calendar .now) (a .today)) (a .standing) (a .buffer .now) (s .pre .3) (record { file = m .admit .result; sent = w .send .result }) _ d (v .evaluate .result) _ (v .evaluate .ensures)
+    let d = ordered-done (a .calendar .now) (a .today) (a .file) (a .r) (j .new-order .ensures) (g .code-for .ensures) (k .notice-on .ensures) (m .admit .ensures) (w .send .ensures) in
+    then-done (evaluated (a .calendar .now) (a .today)) d (s .pre .3) (v .evaluate .ensures)
 
 pub accept-order-spec : {M : Type 1} → statement M
 accept-order-spec =

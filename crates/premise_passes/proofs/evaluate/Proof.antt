@@ -6,9 +6,14 @@ use borrow.Author.Tests.{not-true}
 use Rattle.premise.specs.Evaluation.{evaluated}
 use Rattle.premise_notices.proofs.Writes.{writes-length}
 use Rattle.premise_stirred.proofs.Stirred.{evaluated-still}
-use Rattle.premise_passes.proofs.Then.{done-nothing, settle-ready, displace-ready, lapse-ready, tell-ready, evaluate-done}
+use Rattle.premise_passes.proofs.Then.{done-nothing}
+use Rattle.premise_passes.proofs.Evaluating.{Asked, settle-ready, displace-ready, lapse-ready, tell-ready, evaluate-done}
 use Rattle.premise_passes.proofs.evaluate.Statement.{statement}
 use Rattle.premise_passes.proofs.evaluate.Tie as tie
+
+-- what was asked
+asked : (s : tie.Start) → let a = s .args in Asked (a .calendar .now) (a .today) (a .last) (a .file) (a .standing) (a .buffer .now)
+asked s = record { window = s .pre .2; tidy = s .pre .0; room = s .pre .1 }
 
 any-stirs-requires : tie.Need-any-stirs-requires
 any-stirs-requires c κs = search needs
@@ -21,25 +26,20 @@ returns c =
     done-nothing _ (a .file) (a .standing) (a .buffer .now) (evaluated-still (a .calendar .now) (a .today) (a .last) (s .pre .2) (a .file) (s .pre .0) (sym (w .any-stirs .ensures) ∙ not-true _ (c .if1 .taken)))
 
 run-requires : tie.Need-run-requires
-run-requires c κs =
-    let s = c .before .before .before .before .before in
-    let a = s .args in
-    settle-ready (a .calendar .now) (a .today) (a .last) (s .pre .2) (a .file) (s .pre .0) (a .standing) (a .buffer .now) (s .pre .1)
+run-requires c κs = let s = c .before .before .before .before .before in settle-ready (asked s)
 
 run-requires-2 : tie.Need-run-requires-2
 run-requires-2 c κs =
     let u = c .before .before .before in
     let s = u .before .before .before .before .before .before in
-    let a = s .args in
-    displace-ready (a .calendar .now) (a .today) (a .last) (s .pre .2) (a .file) (s .pre .0) (a .standing) (a .buffer .now) (s .pre .1) (u .run .result) (u .run .last .1 .1 .1 .1 .1 .0) (u .run .ensures)
+    displace-ready (asked s) (u .run .ensures)
 
 run-requires-3 : tie.Need-run-requires-3
 run-requires-3 c κs =
     let v = c .before .before .before in
     let u = v .before .before .before .before in
     let s = u .before .before .before .before .before .before in
-    let a = s .args in
-    lapse-ready (a .calendar .now) (a .today) (a .last) (s .pre .2) (a .file) (s .pre .0) (a .standing) (a .buffer .now) (s .pre .1) (u .run .result) (u .run .last .1 .1 .1 .1 .1 .0) (u .run .ensures) (v .run2 .result) (v .run2 .last .1 .1 .1 .1 .1 .0) (v .run2 .ensures)
+    lapse-ready (asked s) (u .run .ensures) (v .run2 .ensures)
 
 run-requires-4 : tie.Need-run-requires-4
 run-requires-4 c κs =
@@ -47,8 +47,7 @@ run-requires-4 c κs =
     let v = w .before .before .before .before in
     let u = v .before .before .before .before in
     let s = u .before .before .before .before .before .before in
-    let a = s .args in
-    tell-ready (a .calendar .now) (a .today) (a .last) (s .pre .2) (a .file) (s .pre .0) (a .standing) (a .buffer .now) (s .pre .1) (u .run .result) (u .run .last .1 .1 .1 .1 .1 .0) (u .run .ensures) (v .run2 .result) (v .run2 .last .1 .1 .1 .1 .1 .0) (v .run2 .ensures) (w .run3 .result) (w .run3 .last .1 .1 .1 .1 .1 .0) (w .run3 .ensures)
+    tell-ready (asked s) (u .run .ensures) (v .run2 .ensures) (w .run3 .ensures)
 
 same-length : tie.Need-same-length
 same-length c =
@@ -58,8 +57,8 @@ same-length c =
     let u = v .before .before .before .before in
     let s = u .before .before .before .before .before .before in
     let a = s .args in
-    writes-length (a .standing) (a .buffer .now) (evaluated (a .calendar .now) (a .today) (a .file) .notices) (s .pre .1) (x .run4 .last .1 .1 .1 .1 .1 .0) (x .run4 .result .sent)
-    (evaluate-done (a .calendar .now) (a .today) (a .last) (s .pre .2) (a .file) (s .pre .0) (a .standing) (a .buffer .now) (s .pre .1) (u .run .result) (u .run .last .1 .1 .1 .1 .1 .0) (u .run .ensures) (v .run2 .result) (v .run2 .last .1 .1 .1 .1 .1 .0) (v .run2 .ensures) (w .run3 .result) (w .run3 .last .1 .1 .1 .1 .1 .0) (w .run3 .ensures) (x .run4 .result) (x .run4 .last .1 .1 .1 .1 .1 .0) (x .run4 .ensures) .wrote)
+    writes-length (a .standing) (a .buffer .now) (evaluated (a .calendar .now) (a .today) (a .file) .notices) (s .pre .1) _ _
+    (evaluate-done (asked s) (u .run .ensures) (v .run2 .ensures) (w .run3 .ensures) (x .run4 .ensures) .wrote)
 
 returns-2 : tie.Need-returns-2
 returns-2 c =
@@ -68,8 +67,7 @@ returns-2 c =
     let v = w .before .before .before .before in
     let u = v .before .before .before .before in
     let s = u .before .before .before .before .before .before in
-    let a = s .args in
-    evaluate-done (a .calendar .now) (a .today) (a .last) (s .pre .2) (a .file) (s .pre .0) (a .standing) (a .buffer .now) (s .pre .1) (u .run .result) (u .run .last .1 .1 .1 .1 .1 .0) (u .run .ensures) (v .run2 .result) (v .run2 .last .1 .1 .1 .1 .1 .0) (v .run2 .ensures) (w .run3 .result) (w .run3 .last .1 .1 .1 .1 .1 .0) (w .run3 .ensures) (x .run4 .result) (x .run4 .last .1 .1 .1 .1 .1 .0) (x .run4 .ensures)
+    evaluate-done (asked s) (u .run .ensures) (v .run2 .ensures) (w .run3 .ensures) (x .run4 .ensures)
 
 pub evaluate-spec : {M : Type 1} → statement M
 evaluate-spec =

@@ -1,13 +1,14 @@
 -- A turn of a day mark: the next file is marked, or stays since the mark does not touch it. Assumes nothing.
-use Prim.Native.Nat.{ℕ, suc, _+_, _<_}
-use mathlib.Core.Path.{_≡_, sym, ap, ap₂, subst, subst⁻¹, _∙_}
+use Prim.Native.Nat.{ℕ, _+_, _<_}
+use mathlib.Core.Path.{_≡_, sym, ap, subst, subst⁻¹, _∙_}
 use mathlib.Core.List.{List, [], _∷_, _++_, append-nil, map-append}
 use mathlib.Core.Bool.{Bool, false}
 use native.Mathlib.Numerals.{add-one}
 use native.Mathlib.Omega.{arith}
 use lib.ListN.{take, drop, length, getD, set, length-take}
-use lib.Seq.{take-suc, drop-cons, set-at, getD-at, append-snoc, set-getD}
+use lib.Seq.{take-suc, set-getD}
 use Rattle.lists.proofs.SearchLaws.{each-at}
+use Rattle.lists.proofs.Over.{next-at, next-stored}
 use Rattle.days.specs.Days.{isBusinessDay}
 use Rattle.days.specs.Window.{windowWidth, LastInWindow}
 use Rattle.records.specs.declared.Notice.{Notice}
@@ -51,12 +52,12 @@ module _ {calendar : List ℕ} {day : ℕ} {b : Book} {buffer : List ℕ} {i sen
   done-length : length done ≡ i
   done-length = length-marked calendar day (take i (filesOf b)) ∙ omega (arith, length-take i (filesOf b), inside)
 
-  -- it, and those behind it
+  -- it
   abbrev file : File
   file = getD (filesOf b) i past
 
-  rest : drop i (b .files) ≡ getD (b .files) i past ∷ drop (suc i) (b .files)
-  rest = drop-cons (b .files) i past (omega (arith, length-files b tidy, mark-place))
+  has-place : i < length (b .files)
+  has-place = omega (arith, length-files b tidy, mark-place)
 
   -- with it the first i + 1 files
   files-more : take (i + 1) (filesOf b) ≡ take i (filesOf b) ++ (file ∷ [])
@@ -78,8 +79,7 @@ module _ {calendar : List ℕ} {day : ℕ} {b : Book} {buffer : List ℕ} {i sen
   same-file : getD (c .files) i past ≡ file
   same-file =
       ap (λ (x : Book). getD (x .files) i past) (m .here)
-      ∙ ap (λ (l : List File). getD (done ++ l) i past) rest
-      ∙ getD-at done (getD (b .files) i past) (drop (suc i) (b .files)) past i done-length
+      ∙ next-at past done (b .files) i done-length has-place
       ∙ at-file b i h
 
   -- it is tidy, and there is room for its notices
@@ -102,10 +102,8 @@ module _ {calendar : List ℕ} {day : ℕ} {b : Book} {buffer : List ℕ} {i sen
         here =
             ap (λ (x : Book). withPlaces x (x .count) (set (x .files) i (r .file))) (m .here)
             ∙ ap (λ (l : List File). record { today = day; count = b .count; files = l })
-            (ap (λ (l : List File). set (done ++ l) i (r .file)) rest
-            ∙ set-at done (getD (b .files) i past) (drop (suc i) (b .files)) (r .file) i done-length
-            ∙ sym (append-snoc done (r .file) (drop (suc i) (b .files)))
-            ∙ ap₂ (λ (f : File) (n : ℕ). (done ++ (f ∷ [])) ++ drop n (b .files)) (did .file) (sym (add-one i))
+            (next-stored past done (b .files) i done-length has-place (r .file)
+            ∙ ap (λ (f : File). (done ++ (f ∷ [])) ++ drop (i + 1) (b .files)) (did .file)
             ∙ ap (λ (l : List File). l ++ drop (i + 1) (b .files)) (sym done-more));
         wrote =
             subst⁻¹ (λ (l : List Notice). Writes 0 buffer last (r .sent) l) told-more

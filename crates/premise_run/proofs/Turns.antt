@@ -1,11 +1,12 @@
 -- A pass by any step, run over a file and a buffer order by order: what stands after some turns, and at the end. Assumes nothing.
-use Prim.Native.Nat.{ℕ, suc, _+_, _-_, _<_, _≤_}
+use Prim.Native.Nat.{ℕ, _+_, _-_, _<_, _≤_}
 use mathlib.Core.Path.{_≡_, refl, sym, ap, ap₂, subst, subst⁻¹, _∙_}
 use mathlib.Core.List.{List, [], _∷_, _++_, append-nil}
 use native.Mathlib.Numerals.{add-one}
 use native.Mathlib.Omega.{arith}
 use lib.ListN.{take, drop, length, getD, set, replicate, take-append-drop, length-take}
-use lib.Seq.{take-all, take-suc, drop-at, drop-cons, set-at, append-snoc, getD-take}
+use lib.Seq.{take-all, take-suc, drop-at, getD-take}
+use Rattle.lists.proofs.Over.{next-stays, next-stored}
 use Rattle.records.specs.declared.Notice.{Notice}
 use Rattle.premise.specs.declared.Order.{Order}
 use Rattle.premise.specs.declared.File.{File}
@@ -30,14 +31,6 @@ pub record Sofar (step : ℕ → Order → Change) (file : File) (standing : ℕ
 pub sofar-none : {step : ℕ → Order → Change} {file : File} {standing : ℕ} {b : List ℕ} → Tidy file → Room standing (pass step (held file) .notices) b
     → Sofar step file standing b 0 standing file b
 sofar-none {standing = standing} {b = b} tidy room = record { tidy = tidy; room = room; within = omega arith; here = refl; wrote = writes-none standing b }
-
--- one order more, stored in its place
-set-turn : (done old : List Order) (i : ℕ) (o : Order) → length done ≡ i → i < length old → set (done ++ drop i old) i o ≡ (done ++ (o ∷ [])) ++ drop (i + 1) old
-set-turn done old i o l h =
-    ap (λ (r : List Order). set (done ++ r) i o) (drop-cons old i blank h)
-    ∙ set-at done (getD old i blank) (drop (suc i) old) o i l
-    ∙ sym (append-snoc done o (drop (suc i) old))
-    ∙ ap (λ (n : ℕ). (done ++ (o ∷ [])) ++ drop n old) (sym (add-one i))
 
 module _ {step : ℕ → Order → Change} {file : File} {standing : ℕ} {b : List ℕ} {i sent : ℕ} {out : File} {c : List ℕ} (s : Sofar step file standing b i sent out c) where
   -- the first i orders, done, and their notices
@@ -69,6 +62,9 @@ module _ {step : ℕ → Order → Change} {file : File} {standing : ℕ} {b : L
     at-place : 0 + length (take i (held file)) ≡ i
     at-place = omega (arith, length-take i (held file), length-held file (s .tidy))
 
+    done-length : length done ≡ i
+    done-length = length-pass step 0 (take i (held file)) ∙ omega (arith, at-place)
+
     -- with it the first i + 1 orders
     held-more : take (i + 1) (held file) ≡ take i (held file) ++ (o ∷ [])
     held-more =
@@ -99,7 +95,6 @@ module _ {step : ℕ → Order → Change} {file : File} {standing : ℕ} {b : L
     pub sofar-turn : (r : Stepped) {d : List ℕ} → DoneToOrder (step i (getD (file .orders) i blank)) sent r c d
         → Sofar step file standing b (i + 1) (r .sent) (withPlaces out (out .count) (set (out .orders) i (r .order))) d
     sofar-turn r {d} did =
-        let l : length done ≡ i = length-pass step 0 (take i (held file)) ∙ omega (arith, at-place) in
         record {
           tidy = s .tidy;
           room = s .room;
@@ -107,7 +102,7 @@ module _ {step : ℕ → Order → Change} {file : File} {standing : ℕ} {b : L
           here =
               ap (λ (x : File). withPlaces x (x .count) (set (x .orders) i (r .order))) (s .here)
               ∙ ap (withPlaces file (file .count))
-              (set-turn done (file .orders) i (r .order) l inside
+              (next-stored blank done (file .orders) i done-length inside (r .order)
               ∙ ap (λ (x : Order). (done ++ (x ∷ [])) ++ drop (i + 1) (file .orders)) (did .order)
               ∙ ap (λ (x : List Order). x ++ drop (i + 1) (file .orders)) (sym done-more));
           wrote =
@@ -124,10 +119,9 @@ module _ {step : ℕ → Order → Change} {file : File} {standing : ℕ} {b : L
           within = omega arith;
           here =
               s .here
-              ∙ ap (λ (l : List Order). withPlaces file (file .count) (done ++ l)) (drop-cons (file .orders) i blank inside)
               ∙ ap (withPlaces file (file .count))
-              (sym (append-snoc done o (drop (suc i) (file .orders)))
-              ∙ ap₂ (λ (x : Order) (n : ℕ). (done ++ (x ∷ [])) ++ drop n (file .orders)) (sym (ap (λ (x : Change). x .order) e)) (sym (add-one i))
+              (next-stays blank done (file .orders) i done-length inside
+              ∙ ap (λ (x : Order). (done ++ (x ∷ [])) ++ drop (i + 1) (file .orders)) (sym (ap (λ (x : Change). x .order) e))
               ∙ ap (λ (x : List Order). x ++ drop (i + 1) (file .orders)) (sym done-more));
           wrote = subst⁻¹ (λ (l : List Notice). Writes standing b c sent l) (told-more ∙ ap (λ (x : Change). told ++ x .notices) e ∙ append-nil told) (s .wrote);
         }

@@ -6,6 +6,7 @@ mod record_call;
 mod row_three;
 mod row_two;
 mod rows;
+mod running;
 mod set_pieces;
 mod single_calls;
 mod steps;

@@ -1,6 +1,6 @@
 //! The programs beside the tape program, run as programs.
 
-use crate::support::{folder, played, printed, run_on};
+use crate::running::{folder, played, printed, run_on};
 use stacking::record::{decode, RECORD_BYTES};
 use std::process::{Command, Output};
 

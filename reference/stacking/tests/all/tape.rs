@@ -1,5 +1,6 @@
 //! The tape program, as a function and as a program.
 
+use crate::running::{folder, played, run_on, text};
 use crate::support::*;
 use stacking::tape::TAPE_BYTES;
 use std::path::{Path, PathBuf};

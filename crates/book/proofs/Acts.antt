@@ -24,7 +24,8 @@ use Rattle.premise.proofs.Answers.{answer-is-first-row, refusal-is, mark-step}
 use Rattle.premise.proofs.Table.{accepted-is-zero}
 use Rattle.book.specs.declared.Book.{Book}
 use Rattle.book.specs.Book.{filesOf, bookOf, fileFor, withFile}
-use Rattle.book.specs.Calls.{noticeBytes, recordRows, premiseState, Result, onPremise, onReading, refusal, call, meetsRow6, markedBook, onDayMark, asOne, inBook}
+use Rattle.book.specs.Calls.{noticeBytes, recordRows, premiseState, Result, onPremise, onReading, refusal, call, meetsRow6}
+use Rattle.book.specs.Calls.{markedBook, onDayMark, asOne, inBook}
 use Rattle.book.specs.Laws.{BookKept}
 use Rattle.book.proofs.Files.{rises-rising}
 use Rattle.book.proofs.SameFiles.{with-same}
@@ -52,22 +53,26 @@ module _ (calendar : List ℕ) (b : Book) where
   accepts first d e = rw (eq-eqb (number first) 0 (accepted-is-zero first .1 e))
 
   module _ (k : BookKept b) (r : Record) (w : wellFormed r ≡ true) where
-    decided-mark : is kindDayMark r ≡ true → decided (step calendar (premiseState b (r .premise)) r .answer) (Says r) ≡ onDayMark calendar b r
+    decided-mark : is kindDayMark r ≡ true
+        → decided (step calendar (premiseState b (r .premise)) r .answer) (Says r) ≡ onDayMark calendar b r
     decided-mark t =
         let e = mark-step calendar (premiseState b (r .premise)) r t in
         ap (λ (g : Given). decided (g .answer) (Says r)) e ∙ go (eqb (r .day) (b .today + 1))
       where
         go : (next : Bool)
-            → decided (cond next (markedOr calendar (r .day) (fileFor (r .premise) (filesOf b))) (refused NotNextDay (premiseState b (r .premise))) .answer) (Says r)
+            → decided (cond next (markedOr calendar (r .day) (fileFor (r .premise) (filesOf b)))
+            (refused NotNextDay (premiseState b (r .premise))) .answer) (Says r)
             ≡ cond next (markedBook calendar b (r .day)) (refusal NotNextDay b)
         go true =
-            accepts (markedOr calendar (r .day) (fileFor (r .premise) (filesOf b)) .answer) (Says r) (marked-accepted calendar (r .day) (fileFor (r .premise) (filesOf b)))
+            accepts (markedOr calendar (r .day) (fileFor (r .premise) (filesOf b)) .answer) (Says r)
+            (marked-accepted calendar (r .day) (fileFor (r .premise) (filesOf b)))
             ∙ rw t refl
         go false = refuses NotNextDay (Says r) (refusing NotNextDay refl)
 
     -- a refusal leaves the file where it is
     put-back : is kindDayMark r ≡ false → bookOf (b .today) (withFile (r .premise) (fileFor (r .premise) (filesOf b)) (filesOf b)) ≡ b
-    put-back t = ap (bookOf (b .today)) (with-same (r .premise) (filesOf b) (has-premise r w t) (rises-rising 0 (filesOf b) (k .rising))) ∙ sym (k .tidy .whole)
+    put-back t = ap (bookOf (b .today)) (with-same (r .premise) (filesOf b) (has-premise r w t) (rises-rising 0 (filesOf b) (k .rising)))
+        ∙ sym (k .tidy .whole)
 
     decided-one : is kindDayMark r ≡ false → decided (step calendar (premiseState b (r .premise)) r .answer) (Says r) ≡ asOne calendar b r
     decided-one t = go (eqb (number (step calendar (premiseState b (r .premise)) r .answer)) 0) refl
@@ -78,7 +83,11 @@ module _ (calendar : List ℕ) (b : Book) where
             let given = step calendar (premiseState b (r .premise)) r in
             let e : given .answer ≡ Accepted = accepted-is-zero (given .answer) .0 (eqb-true (number (given .answer)) 0 z) in
             accepts (given .answer) (Says r) e ∙ ap (λ c. cond c (markedBook calendar b (r .day)) (onPremise calendar b r)) t
-            ∙ (λ i. record { answer = sym e i; notices = given .notices; book = bookOf (b .today) (withFile (r .premise) (given .state .file) (filesOf b)) })
+            ∙ (λ i. record {
+              answer = sym e i;
+              notices = given .notices;
+              book = bookOf (b .today) (withFile (r .premise) (given .state .file) (filesOf b));
+            })
         go false z =
             let given = step calendar (premiseState b (r .premise)) r in
             refuses (given .answer) (Says r) (eqb-false (number (given .answer)) 0 z)
@@ -86,18 +95,22 @@ module _ (calendar : List ℕ) (b : Book) where
             ∙ sym (ap (inBook b (r .premise)) (refusal-is calendar (premiseState b (r .premise)) r z))
 
   -- What a call does.
-  pub call-acts : (bytes lent : List ℕ) → BookKept b → noticeBytes ≤ length lent → meetsRow6 b (reading bytes) ≡ false → call calendar b bytes lent ≡ acted calendar b (reading bytes)
+  pub call-acts : (bytes lent : List ℕ) → BookKept b → noticeBytes ≤ length lent → meetsRow6 b (reading bytes) ≡ false
+      → call calendar b bytes lent ≡ acted calendar b (reading bytes)
   unfolding call
   call-acts bytes lent k room places =
-      ap (λ first. decided first (reading bytes)) (record-decides calendar b bytes lent room (book-kept-means b .1 k)) ∙ go (reading bytes) refl places
+      ap (λ first. decided first (reading bytes)) (record-decides calendar b bytes lent room (book-kept-means b .1 k))
+      ∙ go (reading bytes) refl places
     where
       go : (d : Reading) → reading bytes ≡ d → meetsRow6 b d ≡ false → decided (firstRow (recordRows calendar b d)) d ≡ acted calendar b d
       go Malformed e n = refuses MalformedRecord Malformed (refusing MalformedRecord refl)
       go (Says r) e n =
           let w = says bytes r e .formed in
-          ap (λ first. decided first (Says r)) (rows-of-one calendar b r n ∙ sym (answer-is-first-row calendar (premiseState b (r .premise)) r))
+          ap (λ first. decided first (Says r))
+          (rows-of-one calendar b r n ∙ sym (answer-is-first-row calendar (premiseState b (r .premise)) r))
           ∙ by (is kindDayMark r) refl w
         where
-          by : (mark : Bool) → is kindDayMark r ≡ mark → wellFormed r ≡ true → decided (step calendar (premiseState b (r .premise)) r .answer) (Says r) ≡ acted calendar b (Says r)
+          by : (mark : Bool) → is kindDayMark r ≡ mark → wellFormed r ≡ true
+              → decided (step calendar (premiseState b (r .premise)) r .answer) (Says r) ≡ acted calendar b (Says r)
           by true t w = decided-mark k r w t ∙ ap (λ c. cond c (onDayMark calendar b r) (asOne calendar b r)) (sym t)
           by false t w = decided-one k r w t ∙ ap (λ c. cond c (onDayMark calendar b r) (asOne calendar b r)) (sym t)

@@ -31,7 +31,8 @@ use Rattle.book.proofs.Marks.{marked-one}
 use Rattle.book.proofs.Acts.{decided, refuses, acted, call-acts}
 
 pub call-malformed : CallMalformed
-call-malformed calendar b bytes lent well room e = call-acts calendar b bytes lent (book-kept-means b .0 well) room (ap (meetsRow6 b) e) ∙ ap (acted calendar b) e
+call-malformed calendar b bytes lent well room e =
+    call-acts calendar b bytes lent (book-kept-means b .0 well) room (ap (meetsRow6 b) e) ∙ ap (acted calendar b) e
 
 -- ---- a premise that is not held
 pub call-not-held : CallNotHeld
@@ -56,12 +57,14 @@ call-on-mark calendar b bytes lent r well room e mark =
 abbrev numberOf : File → ℕ
 numberOf f = f .premise
 
-marked-as-before : (calendar : List ℕ) (day : ℕ) (fs : List File) → Each FileKept fs → map numberOf (markedFiles calendar day fs) ≡ map numberOf fs
+marked-as-before : (calendar : List ℕ) (day : ℕ) (fs : List File) → Each FileKept fs
+    → map numberOf (markedFiles calendar day fs) ≡ map numberOf fs
 marked-as-before calendar day [] u = refl
 marked-as-before calendar day (f ∷ fs) u = λ i. marked-one calendar day f (u .0) .number i ∷ marked-as-before calendar day fs (u .1) i
 
 -- the numbers of a book by its files
-numbers-by : (today : ℕ) (fs : List File) → numbersOf (bookOf today fs) ≡ map numberOf fs ++ map numberOf (replicate (mostFiles - length fs) blankFile)
+numbers-by : (today : ℕ) (fs : List File)
+    → numbersOf (bookOf today fs) ≡ map numberOf fs ++ map numberOf (replicate (mostFiles - length fs) blankFile)
 unfolding bookOf
 numbers-by today fs = map-append numberOf fs (replicate (mostFiles - length fs) blankFile)
 

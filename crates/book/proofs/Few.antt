@@ -17,7 +17,8 @@ use Rattle.book.proofs.Kept.{count-is, book-kept-means}
 use Rattle.book.proofs.Keeps.{found-kept, keptOnes, by-call}
 
 -- two notices for each of eight orders, file by file
-marks-few : (calendar : List ℕ) (day : ℕ) (fs : List File) → Each FileKept fs → length (markedNotices calendar day fs) ≤ 2 * mostOrders * length fs
+marks-few : (calendar : List ℕ) (day : ℕ) (fs : List File) → Each FileKept fs
+    → length (markedNotices calendar day fs) ≤ 2 * mostOrders * length fs
 marks-few calendar day [] u = omega arith
 marks-few calendar day (f ∷ fs) u =
     omega (
@@ -34,7 +35,11 @@ mark-all-few calendar b day k = omega (arith, marks-few calendar day (filesOf b)
 
 pub step-all-few : StepAllFew
 step-all-few calendar b r k w t =
-    omega (arith, step-few calendar (premiseState b (r .premise)) r w t (keptOnes (r .premise) (fileFor (r .premise) (filesOf b)) (found-kept b k (r .premise))))
+    omega (
+      arith,
+      step-few calendar (premiseState b (r .premise)) r w t
+          (keptOnes (r .premise) (fileFor (r .premise) (filesOf b)) (found-kept b k (r .premise))),
+    )
 
 pub call-few : CallFew
 call-few calendar b bytes lent =

@@ -21,8 +21,11 @@ Rising n (g ∷ gs) = (n < g .premise) × Rising (g .premise) gs
 
 pub rises-rising : (n : ℕ) (gs : List File) → risesFrom n gs ≡ true → Rising n gs
 rises-rising n [] e = tt
-rises-rising n (g ∷ gs) e =
-    (ltb-true n (g .premise) (and-left (ltb n (g .premise)) (risesFrom (g .premise) gs) e), rises-rising (g .premise) gs (and-right (ltb n (g .premise)) (risesFrom (g .premise) gs) e))
+rises-rising n (g ∷ gs) e = (
+  ltb-true n (g .premise) (and-left (ltb n (g .premise)) (risesFrom (g .premise) gs) e),
+  rises-rising (g .premise) gs
+      (and-right (ltb n (g .premise)) (risesFrom (g .premise) gs) e),
+)
 
 pub rising-rises : (n : ℕ) (gs : List File) → Rising n gs → risesFrom n gs ≡ true
 rising-rises n [] r = refl
@@ -37,7 +40,8 @@ weaken m n (g ∷ gs) h r = (omega arith, r .1)
 pub found-below : (premise n : ℕ) (gs : List File) → premise ≤ n → Rising n gs → fileFor premise gs ≡ none
 unfolding fileFor
 found-below premise n [] h r = refl
-found-below premise n (g ∷ gs) h r = rw (ne-eqb (g .premise) premise (omega arith)) (found-below premise (g .premise) gs (omega arith) (r .1))
+found-below premise n (g ∷ gs) h r =
+    rw (ne-eqb (g .premise) premise (omega arith)) (found-below premise (g .premise) gs (omega arith) (r .1))
 
 pub found-head : (premise : ℕ) (g : File) (gs : List File) → g .premise ≡ premise → fileFor premise (g ∷ gs) ≡ some g
 unfolding fileFor
@@ -48,7 +52,8 @@ unfolding fileFor
 found-tail premise g gs e = rw (ne-eqb (g .premise) premise e)
 
 -- the file found has the number, and what every file of the list has
-pub found-has : (Has : File → Type 0) (premise : ℕ) (gs : List File) → Each Has gs → Held (λ f. (f .premise ≡ premise) × Has f) (fileFor premise gs)
+pub found-has : (Has : File → Type 0) (premise : ℕ) (gs : List File) → Each Has gs
+    → Held (λ f. (f .premise ≡ premise) × Has f) (fileFor premise gs)
 unfolding fileFor
 found-has Has premise [] u = tt
 found-has Has premise (g ∷ gs) u = go (eqb (g .premise) premise) refl (found-has Has premise gs (u .1))

@@ -27,7 +27,8 @@ module _ (f g : File) (gs : List File) where
   put-after h = rw (le-ltb (f .premise) (g .premise) (omega arith), ne-eqb (f .premise) (g .premise) (omega arith))
 
   -- the three places that a file can take
-  by-place : (P : List File → Type 0) → (f .premise < g .premise → P (f ∷ g ∷ gs)) → (f .premise ≡ g .premise → P (f ∷ gs)) → (g .premise < f .premise → P (g ∷ putIn f gs)) → P (putIn f (g ∷ gs))
+  by-place : (P : List File → Type 0) → (f .premise < g .premise → P (f ∷ g ∷ gs)) → (f .premise ≡ g .premise → P (f ∷ gs))
+      → (g .premise < f .premise → P (g ∷ putIn f gs)) → P (putIn f (g ∷ gs))
   by-place P before over after = go (ltb (f .premise) (g .premise)) (eqb (f .premise) (g .premise)) refl refl
     where
       go : (a b : Bool) → ltb (f .premise) (g .premise) ≡ a → eqb (f .premise) (g .premise) ≡ b → P (putIn f (g ∷ gs))
@@ -55,7 +56,8 @@ put-others premise f (g ∷ gs) n =
     (λ h. found-tail premise f gs n ∙ sym (found-tail premise g gs (λ e. n (h ∙ e))))
     (λ h. go (eqb (g .premise) premise) refl (put-others premise f gs n))
   where
-    go : (a : Bool) → eqb (g .premise) premise ≡ a → fileFor premise (putIn f gs) ≡ fileFor premise gs → fileFor premise (g ∷ putIn f gs) ≡ fileFor premise (g ∷ gs)
+    go : (a : Bool) → eqb (g .premise) premise ≡ a → fileFor premise (putIn f gs) ≡ fileFor premise gs
+        → fileFor premise (g ∷ putIn f gs) ≡ fileFor premise (g ∷ gs)
     go true t ih = let e = eqb-true (g .premise) premise t in found-head premise g (putIn f gs) e ∙ sym (found-head premise g gs e)
     go false t ih = let e = eqb-false (g .premise) premise t in found-tail premise g (putIn f gs) e ∙ ih ∙ sym (found-tail premise g gs e)
 
@@ -98,14 +100,16 @@ module _ (d : File) where
   rising-at n (g ∷ gs) r zero h = r .0
   rising-at n (g ∷ gs) r (suc i) h = omega (arith, r .0, rising-at (g .premise) gs (r .1) i (omega arith))
 
-  pub found-at : (premise n : ℕ) (gs : List File) → Rising n gs → (i : ℕ) → i < length gs → getD gs i d .premise ≡ premise → fileFor premise gs ≡ some (getD gs i d)
+  pub found-at : (premise n : ℕ) (gs : List File) → Rising n gs → (i : ℕ) → i < length gs → getD gs i d .premise ≡ premise
+      → fileFor premise gs ≡ some (getD gs i d)
   found-at premise n [] r i h e = absurd (omega arith)
   found-at premise n (g ∷ gs) r zero h e = found-head premise g gs e
   found-at premise n (g ∷ gs) r (suc i) h e =
       let below = rising-at (g .premise) gs (r .1) i (omega arith) in
       found-tail premise g gs (λ q. omega (arith, q, e, below)) ∙ found-at premise (g .premise) gs (r .1) i (omega arith) e
 
-  pub put-at : (f : File) (n : ℕ) (gs : List File) → Rising n gs → (i : ℕ) → i < length gs → getD gs i d .premise ≡ f .premise → putIn f gs ≡ set gs i f
+  pub put-at : (f : File) (n : ℕ) (gs : List File) → Rising n gs → (i : ℕ) → i < length gs → getD gs i d .premise ≡ f .premise
+      → putIn f gs ≡ set gs i f
   put-at f n [] r i h e = absurd (omega arith)
   put-at f n (g ∷ gs) r zero h e = put-over f g gs (sym e)
   put-at f n (g ∷ gs) r (suc i) h e =

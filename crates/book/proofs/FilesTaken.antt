@@ -14,7 +14,8 @@ use Rattle.book.specs.Book.{fileFor, takenOut}
 use Rattle.book.proofs.Files.{Rising, found-below, found-head, found-tail, weaken}
 
 module _ (premise : ℕ) (g : File) (gs : List File) where
-  by-number : (P : List File → Type 0) → (g .premise ≡ premise → P gs) → ((g .premise ≡ premise → ⊥) → P (g ∷ takenOut premise gs)) → P (takenOut premise (g ∷ gs))
+  by-number : (P : List File → Type 0) → (g .premise ≡ premise → P gs) → ((g .premise ≡ premise → ⊥) → P (g ∷ takenOut premise gs))
+      → P (takenOut premise (g ∷ gs))
   unfolding takenOut
   by-number P same other = go (eqb (g .premise) premise) refl
     where
@@ -38,14 +39,18 @@ taken-others other premise (g ∷ gs) n =
     (λ e. sym (found-tail other g gs (λ k. n (sym e ∙ k))))
     (λ e. go (eqb (g .premise) other) refl (taken-others other premise gs n))
   where
-    go : (a : Bool) → eqb (g .premise) other ≡ a → fileFor other (takenOut premise gs) ≡ fileFor other gs → fileFor other (g ∷ takenOut premise gs) ≡ fileFor other (g ∷ gs)
+    go : (a : Bool) → eqb (g .premise) other ≡ a → fileFor other (takenOut premise gs) ≡ fileFor other gs
+        → fileFor other (g ∷ takenOut premise gs) ≡ fileFor other (g ∷ gs)
     go true t ih = let e = eqb-true (g .premise) other t in found-head other g (takenOut premise gs) e ∙ sym (found-head other g gs e)
-    go false t ih = let e = eqb-false (g .premise) other t in found-tail other g (takenOut premise gs) e ∙ ih ∙ sym (found-tail other g gs e)
+    go false t ih = let e =
+        eqb-false (g .premise) other t in found-tail other g (takenOut premise gs) e ∙ ih ∙ sym (found-tail other g gs e)
 
 pub taken-rising : (n premise : ℕ) (gs : List File) → Rising n gs → Rising n (takenOut premise gs)
 unfolding takenOut
 taken-rising n premise [] r = tt
-taken-rising n premise (g ∷ gs) r = by-number premise g gs (Rising n) (λ e. weaken n (g .premise) gs (omega arith) (r .1)) (λ e. (r .0, taken-rising (g .premise) premise gs (r .1)))
+taken-rising n premise (g ∷ gs) r =
+    by-number premise g gs (Rising n) (λ e. weaken n (g .premise) gs (omega arith) (r .1))
+    (λ e. (r .0, taken-rising (g .premise) premise gs (r .1)))
 
 pub taken-each : (Has : File → Type 0) (premise : ℕ) (gs : List File) → Each Has gs → Each Has (takenOut premise gs)
 unfolding takenOut
@@ -55,4 +60,5 @@ taken-each Has premise (g ∷ gs) u = by-number premise g gs (Each Has) (λ e. u
 pub taken-length : (premise : ℕ) (gs : List File) → length (takenOut premise gs) ≤ length gs
 unfolding takenOut
 taken-length premise [] = omega arith
-taken-length premise (g ∷ gs) = by-number premise g gs (λ l. length l ≤ length (g ∷ gs)) (λ e. omega arith) (λ e. omega (arith, taken-length premise gs))
+taken-length premise (g ∷ gs) =
+    by-number premise g gs (λ l. length l ≤ length (g ∷ gs)) (λ e. omega arith) (λ e. omega (arith, taken-length premise gs))

@@ -34,7 +34,7 @@ use Rattle.book.proofs.FilesPut.{put-length, put-held}
 use Rattle.book.proofs.FilesTaken.{taken-length}
 use Rattle.book.proofs.SameFiles.{Numbered, with-rising, with-each}
 use Rattle.book.proofs.Kept.{kept-of, count-is, book-kept-means}
-use Rattle.book.proofs.Rows.{Passed, passed, not-malformed, not-full}
+use Rattle.book.proofs.Rows.{FileAfter, passed, not-malformed, not-full}
 use Rattle.book.proofs.Marks.{marked-each, marked-rising}
 
 -- a record of another kind than 10 has a premise's number
@@ -72,19 +72,22 @@ module _ (b : Book) (k : BookKept b) where
         kept-of (r .day) (markedFiles calendar (r .day) (filesOf b)) day
         (rw (length-map (filesOf b) (λ (f : File). marked calendar (r .day) f .file)) few)
         (marked-each calendar (r .day) (filesOf b) (k .files))
-        (rising-rises 0 (markedFiles calendar (r .day) (filesOf b)) (marked-rising calendar (r .day) 0 (filesOf b) (k .files) (rises-rising 0 (filesOf b) (k .rising))))
+        (rising-rises 0 (markedFiles calendar (r .day) (filesOf b))
+        (marked-rising calendar (r .day) 0 (filesOf b) (k .files) (rises-rising 0 (filesOf b) (k .rising))))
 
     -- ---- any other record
     pub step-kept-file : wellFormed r ≡ true → Held (KeptFor (r .premise)) (step calendar (premiseState b (r .premise)) r .state .file)
     step-kept-file w = step-keeps calendar (premiseState b (r .premise)) r (r .premise) w (λ e. refl) (found-kept (r .premise))
 
     -- a new file finds a place
-    fits : (is kindCreate r && eqb (length (filesOf b)) mostFiles) ≡ false → (file : Option File) → step calendar (premiseState b (r .premise)) r .state .file ≡ file
+    fits : (is kindCreate r && eqb (length (filesOf b)) mostFiles) ≡ false → (file : Option File)
+        → step calendar (premiseState b (r .premise)) r .state .file ≡ file
         → Numbered (r .premise) file → length (withFile (r .premise) file (filesOf b)) ≤ mostFiles
     fits full none e n = omega (arith, few, taken-length (r .premise) (filesOf b))
     fits full (some g) e n = go (fileFor (r .premise) (filesOf b)) (is kindCreate r) refl refl
       where
-        go : (file : Option File) (creates : Bool) → fileFor (r .premise) (filesOf b) ≡ file → is kindCreate r ≡ creates → length (putIn g (filesOf b)) ≤ mostFiles
+        go : (file : Option File) (creates : Bool) → fileFor (r .premise) (filesOf b) ≡ file → is kindCreate r ≡ creates
+            → length (putIn g (filesOf b)) ≤ mostFiles
         go (some h) creates q c = omega (arith, few, put-held 0 g h (filesOf b) (rises-rising 0 (filesOf b) (k .rising)) (rw n q))
         go none true q c =
             let t = and-other (is kindCreate r) (eqb (length (filesOf b)) mostFiles) full c in
@@ -102,14 +105,16 @@ module _ (b : Book) (k : BookKept b) where
         let n = numbers (r .premise) file h in
         kept-of (b .today) (withFile (r .premise) file (filesOf b)) (k .today) (fits full file refl n)
         (with-each FileKept (r .premise) file (filesOf b) (keptOnes (r .premise) file h) (k .files))
-        (rising-rises 0 (withFile (r .premise) file (filesOf b)) (with-rising (r .premise) file (filesOf b) (has-premise r w other) (rises-rising 0 (filesOf b) (k .rising)) n))
+        (rising-rises 0 (withFile (r .premise) file (filesOf b))
+        (with-rising (r .premise) file (filesOf b) (has-premise r w other) (rises-rising 0 (filesOf b) (k .rising)) n))
 
 -- ---- a call
 -- What holds of the book as it was, and of what each kind of record that is accepted does, holds of what a call does.
 pub by-call : (P : Result → Type 0) (calendar : List ℕ) (b : Book) (bytes lent : List ℕ)
     → P (record { answer = firstRow (callRows calendar b bytes lent); notices = []; book = b })
-    → ((r : Record) → Passed calendar b bytes lent → wellFormed r ≡ true → is kindDayMark r ≡ true → P (markedBook calendar b (r .day)))
-    → ((r : Record) → Passed calendar b bytes lent → wellFormed r ≡ true → is kindDayMark r ≡ false → (is kindCreate r && eqb (length (filesOf b)) mostFiles) ≡ false → P (onPremise calendar b r))
+    → ((r : Record) → FileAfter calendar b bytes lent → wellFormed r ≡ true → is kindDayMark r ≡ true → P (markedBook calendar b (r .day)))
+    → ((r : Record) → FileAfter calendar b bytes lent → wellFormed r ≡ true → is kindDayMark r ≡ false
+    → (is kindCreate r && eqb (length (filesOf b)) mostFiles) ≡ false → P (onPremise calendar b r))
     → P (call calendar b bytes lent)
 unfolding call
 by-call P calendar b bytes lent refused mark other =
@@ -117,11 +122,13 @@ by-call P calendar b bytes lent refused mark other =
     (λ t. let p = passed calendar b bytes lent (eqb-true _ 0 t) in go p (reading bytes) refl (p .none))
     (λ t. refused)
   where
-    go : Passed calendar b bytes lent → (d : Reading) → reading bytes ≡ d → anyOf holds (recordRows calendar b d) ≡ false → P (onReading calendar b d)
+    go : FileAfter calendar b bytes lent → (d : Reading) → reading bytes ≡ d → anyOf holds (recordRows calendar b d) ≡ false
+        → P (onReading calendar b d)
     go p Malformed e n = absurd (not-malformed calendar b n)
     go p (Says r) e n =
         let w = says bytes r e .formed in
-        by-test P (is kindDayMark r) (markedBook calendar b (r .day)) (onPremise calendar b r) (λ t. mark r p w t) (λ t. other r p w t (not-full calendar b r n))
+        by-test P (is kindDayMark r) (markedBook calendar b (r .day)) (onPremise calendar b r) (λ t. mark r p w t)
+        (λ t. other r p w t (not-full calendar b r n))
 
 pub call-keeps : CallKeeps
 call-keeps calendar b bytes lent e =

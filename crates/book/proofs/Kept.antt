@@ -33,7 +33,8 @@ pub holds-its-files : HoldsItsFiles
 unfolding bookOf
 holds-its-files today fs = take-at fs _ (length fs) refl
 
-whole : (b : Book) → b .count ≤ mostFiles → length (b .files) ≡ mostFiles → allOf fileBlank (drop (b .count) (b .files)) ≡ true → b ≡ bookOf (b .today) (filesOf b)
+whole : (b : Book) → b .count ≤ mostFiles → length (b .files) ≡ mostFiles → allOf fileBlank (drop (b .count) (b .files)) ≡ true
+    → b ≡ bookOf (b .today) (filesOf b)
 unfolding bookOf
 whole b few long unused =
     let counted : length (filesOf b) ≡ b .count = length-take-le (b .count) (b .files) (omega arith) in
@@ -41,7 +42,8 @@ whole b few long unused =
     let rest : drop (b .count) (b .files) ≡ replicate (mostFiles - length (filesOf b)) blankFile =
     all-are fileBlank blankFile (λ f. blank-means f .0) (drop (b .count) (b .files)) unused
     ∙ ap (λ (n : ℕ). replicate n blankFile) left in
-    let files : b .files ≡ filesOf b ++ replicate (mostFiles - length (filesOf b)) blankFile = sym (take-append-drop (b .count) (b .files)) ∙ ap (λ l. filesOf b ++ l) rest in
+    let files : b .files ≡ filesOf b ++ replicate (mostFiles - length (filesOf b)) blankFile =
+    sym (take-append-drop (b .count) (b .files)) ∙ ap (λ l. filesOf b ++ l) rest in
     λ i. record { today = b .today; count = sym counted i; files = files i }
 
 kept-facts : (b : Book) → bookKept b ≡ true → BookKept b
@@ -63,10 +65,12 @@ kept-facts b e =
     }
 
 -- a day, and at most 64 files that are well kept and rise, make a well-kept book
-pub kept-of : (today : ℕ) (fs : List File) → today ≤ lastDay → length fs ≤ mostFiles → Each FileKept fs → risesFrom 0 fs ≡ true → bookKept (bookOf today fs) ≡ true
+pub kept-of : (today : ℕ) (fs : List File) → today ≤ lastDay → length fs ≤ mostFiles → Each FileKept fs → risesFrom 0 fs ≡ true
+    → bookKept (bookOf today fs) ≡ true
 unfolding bookKept bookOf
 kept-of today fs day few kept rising =
-    let long : length (fs ++ replicate (mostFiles - length fs) blankFile) ≡ mostFiles = simp (length-append, length-replicate) (omega arith) in
+    let long : length (fs ++ replicate (mostFiles - length fs) blankFile) ≡ mostFiles =
+    simp (length-append, length-replicate) (omega arith) in
     rw (
       le-leb today lastDay day,
       le-leb (length fs) mostFiles few,
@@ -100,7 +104,8 @@ stored b tidy at g h =
     λ i. record { today = b .today; count = (same ∙ count-is b tidy) i; files = e i }
 
 facts-kept : (b : Book) → BookKept b → bookKept b ≡ true
-facts-kept b k = ap bookKept (k .tidy .whole) ∙ kept-of (b .today) (filesOf b) (k .today) (omega (arith, k .tidy .few, count-is b (k .tidy))) (k .files) (k .rising)
+facts-kept b k = ap bookKept (k .tidy .whole)
+    ∙ kept-of (b .today) (filesOf b) (k .today) (omega (arith, k .tidy .few, count-is b (k .tidy))) (k .files) (k .rising)
 
 pub book-kept-means : BookKeptMeans
 book-kept-means b = (kept-facts b, facts-kept b)

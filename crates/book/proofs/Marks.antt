@@ -25,17 +25,20 @@ module _ (calendar : List ℕ) (day : ℕ) where
 
   -- the file found afterwards is the one found before, marked
   pub marked-state : (premise : ℕ) (fs : List File) → Each FileKept fs
-      → _≡_ {A = State} (record { today = day; file = fileFor premise (markedFiles calendar day fs) }) (markedOr calendar day (fileFor premise fs) .state)
+      → _≡_ {A = State} (record { today = day; file = fileFor premise (markedFiles calendar day fs) })
+      (markedOr calendar day (fileFor premise fs) .state)
   unfolding fileFor
   marked-state premise [] u = refl
-  marked-state premise (f ∷ fs) u = ap (λ n. found (eqb n premise)) (marked-one f (u .0) .number) ∙ go (eqb (f .premise) premise) (marked-state premise fs (u .1))
+  marked-state premise (f ∷ fs) u =
+      ap (λ n. found (eqb n premise)) (marked-one f (u .0) .number) ∙ go (eqb (f .premise) premise) (marked-state premise fs (u .1))
     where
       -- what is found, by whether the first file is the one
       found : Bool → State
       found a = record { today = day; file = cond a (some (marked calendar day f .file)) (fileFor premise (markedFiles calendar day fs)) }
 
       go : (a : Bool)
-          → _≡_ {A = State} (record { today = day; file = fileFor premise (markedFiles calendar day fs) }) (markedOr calendar day (fileFor premise fs) .state)
+          → _≡_ {A = State} (record { today = day; file = fileFor premise (markedFiles calendar day fs) })
+          (markedOr calendar day (fileFor premise fs) .state)
           → found a ≡ markedOr calendar day (cond a (some f) (fileFor premise fs)) .state
       go true ih = refl
       go false ih = ih
@@ -45,7 +48,8 @@ module _ (calendar : List ℕ) (day : ℕ) where
   marked-each (f ∷ fs) u = (marked-one f (u .0) .kept, marked-each fs (u .1))
 
   -- what holds of the numbers
-  pub marked-numbers : (In : ℕ → Type 0) (fs : List File) → Each FileKept fs → Each (λ f. In (f .premise)) fs → Each (λ f. In (f .premise)) (markedFiles calendar day fs)
+  pub marked-numbers : (In : ℕ → Type 0) (fs : List File) → Each FileKept fs → Each (λ f. In (f .premise)) fs
+      → Each (λ f. In (f .premise)) (markedFiles calendar day fs)
   marked-numbers In [] u v = tt
   marked-numbers In (f ∷ fs) u v = (rw (marked-one f (u .0) .number) (v .0), marked-numbers In fs (u .1) (v .1))
 

@@ -15,11 +15,11 @@ use Rattle.records.specs.Records.{reading, kindDayMark}
 use Rattle.records.proofs.Readings.{says}
 use Rattle.premise.specs.declared.File.{File}
 use Rattle.premise.specs.Steps.{is}
-use Rattle.premise.specs.OnePremise.{Given, step}
+use Rattle.premise.specs.OnePremise.{Given, step, givenOn}
 use Rattle.premise_laws.specs.Laws.{Held, KeptFor}
 use Rattle.book.specs.declared.Book.{Book}
 use Rattle.book.specs.Book.{filesOf, bookOf, bookKept, fileFor, putIn, withFile}
-use Rattle.book.specs.Calls.{noticeBytes, premiseState, Result, call, meetsRow6, onDayMark, asOne, inBook, givenOn}
+use Rattle.book.specs.Calls.{noticeBytes, premiseState, Result, call, meetsRow6, onDayMark, asOne, inBook}
 use Rattle.book.specs.Laws.{BookKept, OnHeld, withFileAt, numbersOf, CallOnHeld}
 use Rattle.book.proofs.Files.{Rising, rises-rising}
 use Rattle.book.proofs.FilesPut.{found-at, put-at}
@@ -28,8 +28,10 @@ use Rattle.book.proofs.Keeps.{step-kept-file, call-keeps}
 use Rattle.book.proofs.Acts.{acted, call-acts}
 use Rattle.book.proofs.Rows.{not-new}
 
-module _ (calendar : List ℕ) (b : Book) (bytes lent : List ℕ) (r : Record) (at : ℕ) (past g : File) (k : BookKept b) (room : noticeBytes ≤ length lent)
-    (e : reading bytes ≡ Says r) (h : OnHeld b at past r) (left : givenOn calendar (b .today) (some (getD (b .files) at past)) r .state .file ≡ some g) where
+module _ (calendar : List ℕ) (b : Book) (bytes lent : List ℕ) (r : Record) (at : ℕ) (past g : File) (k : BookKept b)
+    (room : noticeBytes ≤ length lent)
+    (e : reading bytes ≡ Says r) (h : OnHeld b at past r)
+    (left : givenOn calendar (b .today) (some (getD (b .files) at past)) r .state .file ≡ some g) where
   abbrev ruled : Given
   ruled = givenOn calendar (b .today) (some (getD (b .files) at past)) r
 
@@ -56,11 +58,13 @@ module _ (calendar : List ℕ) (b : Book) (bytes lent : List ℕ) (r : Record) (
   given = ap (λ (x : Option File). givenOn calendar (b .today) x r) found
 
   kept-file : KeptFor (r .premise) g
-  kept-file = subst (Held (KeptFor (r .premise))) (ap (λ (x : Given). x .state .file) given ∙ left) (step-kept-file b k calendar r (says bytes r e .formed))
+  kept-file = subst (Held (KeptFor (r .premise))) (ap (λ (x : Given). x .state .file) given ∙ left)
+      (step-kept-file b k calendar r (says bytes r e .formed))
 
   -- it is put in over the old one
   put-there : bookOf (b .today) (putIn g (filesOf b)) ≡ withFileAt b at g
-  put-there = ap (bookOf (b .today)) (put-at past g 0 (filesOf b) rising at inside (own ∙ sym (kept-file .number))) ∙ stored b (k .tidy) at g (h .within)
+  put-there = ap (bookOf (b .today)) (put-at past g 0 (filesOf b) rising at inside (own ∙ sym (kept-file .number)))
+      ∙ stored b (k .tidy) at g (h .within)
 
   abbrev Expected : Result
   Expected = record { answer = ruled .answer; notices = ruled .notices; book = withFileAt b at g }

@@ -24,7 +24,7 @@ use Rattle.book.specs.Book.{mostFiles, filesOf, fileFor}
 use Rattle.book.specs.Calls.{recordRows, meetsRow6}
 use Rattle.book.specs.Laws.{AnsweredFull}
 use Rattle.book.proofs.Rows.{rows-of-one, record-decides}
-use Rattle.book.proofs.Demand1.{call-answer}
+use Rattle.book.proofs.CallAnswer.{call-answer}
 
 module _ (calendar : List ℕ) (b : Book) where
   -- a create that meets row 6 meets none before it
@@ -32,13 +32,17 @@ module _ (calendar : List ℕ) (b : Book) where
   first-full r e = go (fileFor (r .premise) (filesOf b)) e
     where
       go : (file : Option File) → (is kindCreate r && not (isHeld file) && eqb (length (filesOf b)) mostFiles) ≡ true
-          → firstRow (premiseRows file r ++ (row BookFull (is kindCreate r && eqb (length (filesOf b)) mostFiles) ∷ orderRows calendar (b .today) (ordersOf file) r)) ≡ BookFull
+          → firstRow (premiseRows file r
+          ++ (row BookFull (is kindCreate r && eqb (length (filesOf b)) mostFiles) ∷ orderRows calendar (b .today) (ordersOf file) r))
+          ≡ BookFull
       go none q =
           let creates = and-left (is kindCreate r) true (and-left (is kindCreate r && true) (eqb (length (filesOf b)) mostFiles) q) in
           let full = and-right (is kindCreate r && true) (eqb (length (filesOf b)) mostFiles) q in
-          create-passes r (row BookFull (is kindCreate r && eqb (length (filesOf b)) mostFiles) ∷ orderRows calendar (b .today) [] r) creates
+          create-passes r (row BookFull (is kindCreate r && eqb (length (filesOf b)) mostFiles) ∷ orderRows calendar (b .today) [] r)
+          creates
           ∙ rw (creates, full) refl
-      go (some f) q = absurd (false≢true (and-right (is kindCreate r) false (and-left (is kindCreate r && false) (eqb (length (filesOf b)) mostFiles) q)))
+      go (some f) q = absurd
+          (false≢true (and-right (is kindCreate r) false (and-left (is kindCreate r && false) (eqb (length (filesOf b)) mostFiles) q)))
 
   full-exactly : (d : Reading) → (firstRow (recordRows calendar b d) ≡ BookFull) ↔ (meetsRow6 b d ≡ true)
   full-exactly Malformed = ((λ e. let z : _≡_ {A = ℕ} 0 1 = cc in absurd (omega arith)), (λ e. absurd (false≢true e)))
@@ -46,8 +50,10 @@ module _ (calendar : List ℕ) (b : Book) where
     where
       go : (full : Bool) → meetsRow6 b (Says r) ≡ full → (firstRow (recordRows calendar b (Says r)) ≡ BookFull) ↔ (full ≡ true)
       go true q = ((λ e. refl), (λ e. first-full r q))
-      go false q =
-          ((λ e. absurd (no-row-6 calendar (b .today) (fileFor (r .premise) (filesOf b)) r (sym (rows-of-one calendar b r q) ∙ e))), (λ e. absurd (false≢true e)))
+      go false q = (
+        (λ e. absurd (no-row-6 calendar (b .today) (fileFor (r .premise) (filesOf b)) r (sym (rows-of-one calendar b r q) ∙ e))),
+        (λ e. absurd (false≢true e)),
+      )
 
 pub answered-full : AnsweredFull
 answered-full calendar b bytes lent well room =

@@ -55,7 +55,8 @@ exact-insert : (a b : List Row) (answer : Answer) (when : Bool) → Refuses answ
 exact-insert [] b answer when n h = exact-cons answer when b n h
 exact-insert (x ∷ a) b answer when n h = go (x .when) h (exact-insert a b answer when n)
   where
-    go : (w : Bool) → ExactIf w (x .answer) (a ++ b) → (Exact (a ++ b) → Exact (a ++ (row answer when ∷ b))) → ExactIf w (x .answer) (a ++ (row answer when ∷ b))
+    go : (w : Bool) → ExactIf w (x .answer) (a ++ b) → (Exact (a ++ b) → Exact (a ++ (row answer when ∷ b)))
+        → ExactIf w (x .answer) (a ++ (row answer when ∷ b))
     go true h ih = h
     go false h ih = ih h
 
@@ -66,7 +67,7 @@ none-holds (y ∷ a) x b e = none-holds a x b (or-right (y .when) (anyOf holds (
 
 -- ---- the call's table
 -- what is known of a call that is accepted: its buffer is long enough, its book well kept, and no row of its record holds
-pub record Passed (calendar : List ℕ) (b : Book) (bytes lent : List ℕ) : Type 0 where
+pub record FileAfter (calendar : List ℕ) (b : Book) (bytes lent : List ℕ) : Type 0 where
   pub room : noticeBytes ≤ length lent
   pub kept : bookKept b ≡ true
   pub none : anyOf holds (recordRows calendar b (reading bytes)) ≡ false
@@ -79,13 +80,17 @@ not-new b r f found =
 
 module _ (calendar : List ℕ) (b : Book) where
   -- a record that does not meet row 6 meets the rows of the one-premise rules
-  pub rows-of-one : (r : Record) → meetsRow6 b (Says r) ≡ false → firstRow (recordRows calendar b (Says r)) ≡ firstRow (rows calendar (b .today) (fileFor (r .premise) (filesOf b)) r)
+  pub rows-of-one : (r : Record) → meetsRow6 b (Says r) ≡ false
+      → firstRow (recordRows calendar b (Says r)) ≡ firstRow (rows calendar (b .today) (fileFor (r .premise) (filesOf b)) r)
   rows-of-one r e = go (is kindCreate r) (eqb (length (filesOf b)) mostFiles) (fileFor (r .premise) (filesOf b)) refl e
     where
       go : (creates full : Bool) (file : Option File) → is kindCreate r ≡ creates → (creates && not (isHeld file) && full) ≡ false
-          → firstRow (premiseRows file r ++ (row BookFull (creates && full) ∷ orderRows calendar (b .today) (ordersOf file) r)) ≡ firstRow (rows calendar (b .today) file r)
-      go false full file t e = first-row-skips (premiseRows file r) (row BookFull false) (orderRows calendar (b .today) (ordersOf file) r) refl
-      go true false file t e = first-row-skips (premiseRows file r) (row BookFull false) (orderRows calendar (b .today) (ordersOf file) r) refl
+          → firstRow (premiseRows file r ++ (row BookFull (creates && full) ∷ orderRows calendar (b .today) (ordersOf file) r))
+          ≡ firstRow (rows calendar (b .today) file r)
+      go false full file t e =
+          first-row-skips (premiseRows file r) (row BookFull false) (orderRows calendar (b .today) (ordersOf file) r) refl
+      go true false file t e =
+          first-row-skips (premiseRows file r) (row BookFull false) (orderRows calendar (b .today) (ordersOf file) r) refl
       go true true none t e = absurd (false≢true (sym e))
       go true true (some f) t e =
           create-held f r (row BookFull true ∷ orderRows calendar (b .today) (ordersOf (some f)) r) t
@@ -96,23 +101,27 @@ module _ (calendar : List ℕ) (b : Book) where
   not-malformed e = false≢true (sym e)
 
   -- where no row holds, row 6 does not
-  pub not-full : (r : Record) → anyOf holds (recordRows calendar b (Says r)) ≡ false → (is kindCreate r && eqb (length (filesOf b)) mostFiles) ≡ false
+  pub not-full : (r : Record) → anyOf holds (recordRows calendar b (Says r)) ≡ false
+      → (is kindCreate r && eqb (length (filesOf b)) mostFiles) ≡ false
   not-full r e =
       let file : Option File = fileFor (r .premise) (filesOf b) in
       let full : Bool = is kindCreate r && eqb (length (filesOf b)) mostFiles in
       none-holds (row MalformedRecord false ∷ premiseRows file r) (row BookFull full) (orderRows calendar (b .today) (ordersOf file) r) e
 
   record-exact : (d : Reading) → Exact (recordRows calendar b d)
-  record-exact Malformed = exact-cons MalformedRecord true [] (refusing MalformedRecord refl) ((λ e. refl), (λ e. accepted-is-zero Accepted .1 refl))
+  record-exact Malformed =
+      exact-cons MalformedRecord true [] (refusing MalformedRecord refl) ((λ e. refl), (λ e. accepted-is-zero Accepted .1 refl))
   record-exact (Says r) =
       let file : Option File = fileFor (r .premise) (filesOf b) in
       let law = zero-where-no-row calendar (premiseState b (r .premise)) r in
       let exact : Exact (rows calendar (b .today) file r) = rw (answer-is-first-row calendar (premiseState b (r .premise)) r) at law in
-      exact-insert (premiseRows file r) (orderRows calendar (b .today) (ordersOf file) r) BookFull (is kindCreate r && eqb (length (filesOf b)) mostFiles) (refusing BookFull refl) exact
+      exact-insert (premiseRows file r) (orderRows calendar (b .today) (ordersOf file) r) BookFull
+      (is kindCreate r && eqb (length (filesOf b)) mostFiles) (refusing BookFull refl) exact
 
 module _ (calendar : List ℕ) (b : Book) (bytes lent : List ℕ) where
   -- with a long enough buffer and a well-kept book the first row is one of the record's
-  pub record-decides : noticeBytes ≤ length lent → bookKept b ≡ true → firstRow (callRows calendar b bytes lent) ≡ firstRow (recordRows calendar b (reading bytes))
+  pub record-decides : noticeBytes ≤ length lent → bookKept b ≡ true
+      → firstRow (callRows calendar b bytes lent) ≡ firstRow (recordRows calendar b (reading bytes))
   unfolding callRows
   record-decides h k =
       ap₂ (λ (short kept : Bool). firstRow (row ShortBuffer short ∷ row NotWellKept (not kept) ∷ recordRows calendar b (reading bytes)))
@@ -125,7 +134,7 @@ module _ (calendar : List ℕ) (b : Book) (bytes lent : List ℕ) where
       exact-cons ShortBuffer (ltb (length lent) noticeBytes) (row NotWellKept (not (bookKept b)) ∷ rest) (refusing ShortBuffer refl)
       (exact-cons NotWellKept (not (bookKept b)) rest (refusing NotWellKept refl) (record-exact calendar b (reading bytes)))
 
-  pub passed : number (firstRow (callRows calendar b bytes lent)) ≡ 0 → Passed calendar b bytes lent
+  pub passed : number (firstRow (callRows calendar b bytes lent)) ≡ 0 → FileAfter calendar b bytes lent
   unfolding callRows
   passed e =
       let short : Bool = ltb (length lent) noticeBytes in

@@ -3,7 +3,6 @@
 use Prim.Native.Nat.{ℕ, _+_}
 use mathlib.Core.List.{List, [], _∷_, _++_, map}
 use mathlib.Core.Bool.{Bool, true, false, cond, not, _&&_}
-use mathlib.Core.Option.{Option}
 use lib.Dec.{eqb, ltb}
 use lib.ListN.{length}
 use Rattle.records.specs.declared.Record.{Record}
@@ -41,7 +40,8 @@ callRows calendar b bytes lent =
     ∷ row NotWellKept (not (bookKept b))
     ∷ recordRows calendar b (reading bytes)
 
--- A well-formed create of a premise that is not held, while 64 files are held, meets row 6. `AnsweredFull` (Laws.antt) ties it to the table.
+-- A well-formed create of a premise that is not held, while 64 files are held, meets row 6. `AnsweredFull` (Laws.antt) ties it to the
+-- table.
 abbrev pub meetsRow6 : Book → Reading → Bool
 meetsRow6 b Malformed = false
 meetsRow6 b (Says r) = is kindCreate r && not (isHeld (fileFor (r .premise) (filesOf b))) && eqb (length (filesOf b)) mostFiles
@@ -68,10 +68,6 @@ markedBook calendar b day =
       notices = markedNotices calendar day (filesOf b);
       book = bookOf day (markedFiles calendar day (filesOf b));
     }
-
--- what the one-premise rules give on T and a file or none
-abbrev pub givenOn : List ℕ → ℕ → Option File → Record → Given
-givenOn calendar today file r = step calendar (record { today = today; file = file }) r
 
 -- Any other record goes to its premise: the one-premise rules on T and that file or none.
 abbrev pub premiseState : Book → ℕ → State

@@ -16,12 +16,12 @@ use Rattle.premise.specs.declared.File.{File}
 use Rattle.premise.specs.declared.Answer.the-variants.{MalformedRecord, NoSuchPremise}
 use Rattle.premise.specs.Steps.{is}
 use Rattle.premise.specs.Refusals.{number, needsPremise}
-use Rattle.premise.specs.OnePremise.{Given}
+use Rattle.premise.specs.OnePremise.{Given, givenOn}
 use Rattle.premise.specs.WellKept.{FileKept}
 use Rattle.premise_laws.specs.Laws.{KeptFor}
 use Rattle.book.specs.declared.Book.{Book}
 use Rattle.book.specs.Book.{mostFiles, filesOf, bookOf, freshBook, risesFrom, bookKept, fileFor}
-use Rattle.book.specs.Calls.{noticeBytes, meetsRow6, markedFiles, markedNotices, onPremise, refusal, call, onDayMark, givenOn}
+use Rattle.book.specs.Calls.{noticeBytes, meetsRow6, markedFiles, markedNotices, onPremise, refusal, call, onDayMark}
 
 -- ---- well kept
 -- at most 64 files, and the places after them unused: what the functions on a book's places ask of it
@@ -55,7 +55,8 @@ CallKeeps = (calendar : List ℕ) (b : Book) (bytes lent : List ℕ) → bookKep
 -- ---- the notices
 -- a day mark's notices, and those of any other record, go into the shortest buffer that is taken ..
 abbrev pub MarkAllFew : Type 0
-MarkAllFew = (calendar : List ℕ) (b : Book) (day : ℕ) → BookKept b → recordLength * length (markedNotices calendar day (filesOf b)) ≤ noticeBytes
+MarkAllFew = (calendar : List ℕ) (b : Book) (day : ℕ) → BookKept b
+    → recordLength * length (markedNotices calendar day (filesOf b)) ≤ noticeBytes
 
 abbrev pub StepAllFew : Type 0
 StepAllFew =
@@ -67,7 +68,8 @@ abbrev pub CallFew : Type 0
 CallFew = (calendar : List ℕ) (b : Book) (bytes lent : List ℕ) → recordLength * length (call calendar b bytes lent .notices) ≤ length lent
 
 -- ---- a record on a premise that is held, by the place of its file
--- a record of kinds 3 to 9, and a place that holds its premise's file; `past` is what a read past the last place would give, of which none comes
+-- a record of kinds 3 to 9, and a place that holds its premise's file; `past` is what a read past the last place would give, of which none
+-- comes
 pub record OnHeld (b : Book) (at : ℕ) (past : File) (r : Record) : Type 0 where
   pub within : at < b .count
   pub own : getD (b .files) at past .premise ≡ r .premise
@@ -107,14 +109,16 @@ CallMalformed =
 abbrev pub CallNotHeld : Type 0
 CallNotHeld =
     (calendar : List ℕ) (b : Book) (bytes lent : List ℕ) (r : Record)
-    → bookKept b ≡ true → noticeBytes ≤ length lent → reading bytes ≡ Says r → needsPremise r ≡ true → fileFor (r .premise) (filesOf b) ≡ none
+    → bookKept b ≡ true → noticeBytes ≤ length lent → reading bytes ≡ Says r → needsPremise r ≡ true
+    → fileFor (r .premise) (filesOf b) ≡ none
     → call calendar b bytes lent ≡ refusal NoSuchPremise b
 
 -- A call is answered 6 exactly where its record meets row 6.
 abbrev pub AnsweredFull : Type 0
 AnsweredFull =
     (calendar : List ℕ) (b : Book) (bytes lent : List ℕ)
-    → bookKept b ≡ true → noticeBytes ≤ length lent → (number (call calendar b bytes lent .answer) ≡ 6) ↔ (meetsRow6 b (reading bytes) ≡ true)
+    → bookKept b ≡ true → noticeBytes ≤ length lent
+    → (number (call calendar b bytes lent .answer) ≡ 6) ↔ (meetsRow6 b (reading bytes) ≡ true)
 
 -- a day mark marks every file on the day after T, and gets 15 on any other
 abbrev pub CallOnMark : Type 0

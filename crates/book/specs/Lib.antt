@@ -1,5 +1,4 @@
 pub mod Book
 pub mod Calls
-pub mod Promise
 pub mod Laws
-pub mod Demand1
+pub mod Promise

@@ -1,6 +1,5 @@
-// The book layer: today and up to 64 files. Here stand its types; what a record call does stands in specs/, from document 01's section
-// "The book"; the theorem about whole lists of calls stands in `book_demand_3`. The helper crates `book_files` to `book_calls` do in code
-// what the definitions say: `book_calls` has the public calls.
+// The book layer's rules: today and up to 64 files. Here stand its types; what a record call does stands in specs/, from document 01's
+// section "The book". `book_files` and `book_calls` do in code what the definitions say; the three demands stand in `demands`.
 use premise::Answer;
 use premise::File;
 

@@ -1,1 +1,5 @@
-pub mod FirstRows
+pub mod Given
+pub mod MarkTurns
+pub mod Marking
+pub mod OnMark
+pub mod Refusals

@@ -47,7 +47,8 @@ module _ (d : File) (premise : ℕ) where
   front f fs h = before-here premise {f = f} {left = f ∷ fs} {rest = fs} refl h
 
   -- another file stands there, or none
-  pub file-elsewhere : (n : ℕ) (fs : List File) → Rising n fs → (before premise fs < length fs → getD fs (before premise fs) d .premise ≡ premise → ⊥) → fileFor premise fs ≡ none
+  pub file-elsewhere : (n : ℕ) (fs : List File) → Rising n fs
+      → (before premise fs < length fs → getD fs (before premise fs) d .premise ≡ premise → ⊥) → fileFor premise fs ≡ none
   unfolding fileFor
   file-elsewhere n [] r e = refl
   file-elsewhere n (f ∷ fs) r e = go (ltb (f .premise) premise) refl (file-elsewhere (f .premise) fs (r .1))
@@ -71,7 +72,8 @@ module _ (d : File) (premise : ℕ) where
       apart : (before premise fs < length fs → getD fs (before premise fs) d .premise ≡ premise → ⊥) → Here d premise fs
       apart out = let m = file-elsewhere n fs r out in let z : _≡_ {A = ℕ} 0 1 = cc (m, e) in absurd (omega (arith, z))
 
-      go : (inside same : Bool) → ltb (before premise fs) (length fs) ≡ inside → eqb (getD fs (before premise fs) d .premise) premise ≡ same → Here d premise fs
+      go : (inside same : Bool) → ltb (before premise fs) (length fs) ≡ inside → eqb (getD fs (before premise fs) d .premise) premise ≡ same
+          → Here d premise fs
       go true true s t = (ltb-true (before premise fs) (length fs) s, eqb-true (getD fs (before premise fs) d .premise) premise t)
       go true false s t = apart (λ h q. eqb-false (getD fs (before premise fs) d .premise) premise t q)
       go false same s t = apart (λ h q. omega (arith, h, ltb-false (before premise fs) (length fs) s))

@@ -1,4 +1,5 @@
-pub mod Tidy
 pub mod Before
+pub mod Numbers
 pub mod PutIn
 pub mod TakenOut
+pub mod Tidy

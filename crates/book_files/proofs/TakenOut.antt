@@ -34,12 +34,14 @@ module _ (d : File) (premise : ℕ) where
   removed-first f fs = refl
 
   -- the file that stands there is taken out
-  pub taken-here : (fs : List File) → before premise fs < length fs → getD fs (before premise fs) d .premise ≡ premise → takenOut premise fs ≡ removed (before premise fs) fs
+  pub taken-here : (fs : List File) → before premise fs < length fs → getD fs (before premise fs) d .premise ≡ premise
+      → takenOut premise fs ≡ removed (before premise fs) fs
   taken-here [] h e = absurd (omega arith)
   taken-here (f ∷ fs) h e = go (ltb (f .premise) premise) refl (taken-here fs)
     where
       go : (a : Bool) → ltb (f .premise) premise ≡ a
-          → (before premise fs < length fs → getD fs (before premise fs) d .premise ≡ premise → takenOut premise fs ≡ removed (before premise fs) fs)
+          → (before premise fs < length fs → getD fs (before premise fs) d .premise ≡ premise
+          → takenOut premise fs ≡ removed (before premise fs) fs)
           → takenOut premise (f ∷ fs) ≡ removed (before premise (f ∷ fs)) (f ∷ fs)
       go true t ih =
           let p = further d premise f fs (ltb-true (f .premise) premise t) in
@@ -59,8 +61,10 @@ module _ (d : File) (premise : ℕ) where
   taken-elsewhere [] e = refl
   taken-elsewhere (f ∷ fs) e = go (eqb (f .premise) premise) refl (taken-elsewhere fs)
     where
-      go : (a : Bool) → eqb (f .premise) premise ≡ a → (fileFor premise fs ≡ none → takenOut premise fs ≡ fs) → takenOut premise (f ∷ fs) ≡ f ∷ fs
-      go true t ih = let q = found-head premise f fs (eqb-true (f .premise) premise t) in let z : _≡_ {A = ℕ} 0 1 = cc (q, e) in absurd (omega (arith, z))
+      go : (a : Bool) → eqb (f .premise) premise ≡ a → (fileFor premise fs ≡ none → takenOut premise fs ≡ fs)
+          → takenOut premise (f ∷ fs) ≡ f ∷ fs
+      go true t ih = let q = found-head premise f fs (eqb-true (f .premise) premise t) in let z : _≡_ {A = ℕ} 0 1 =
+          cc (q, e) in absurd (omega (arith, z))
       go false t ih =
           let n = eqb-false (f .premise) premise t in
           taken-other f fs n ∙ ap (λ (l : List File). f ∷ l) (ih (sym (found-tail premise f fs n) ∙ e))

@@ -39,7 +39,8 @@ unfolding spare
 spare-at k j h = getD-replicate k j blankFile past h
 
 -- ---- a book made of its files
-pub book-is : (today n : ℕ) (places fs : List File) → n ≡ length fs → places ≡ fs ++ spare (mostFiles - length fs) → _≡_ {A = Book} (record { today = today; count = n; files = places }) (bookOf today fs)
+pub book-is : (today n : ℕ) (places fs : List File) → n ≡ length fs → places ≡ fs ++ spare (mostFiles - length fs)
+    → _≡_ {A = Book} (record { today = today; count = n; files = places }) (bookOf today fs)
 unfolding bookOf spare
 book-is today n places fs e f = rw (e, f)
 

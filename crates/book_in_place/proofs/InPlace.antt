@@ -42,7 +42,8 @@ marked-in-place calendar b bytes before after day sent c well room known book wr
       promised = record {
         answer = sym (ap (λ (x : Result). x .answer) same);
         book = book ∙ sym (ap (λ (x : Result). x .book) same);
-        notices = subst⁻¹ (λ (x : Result). Emits before after sent (x .notices)) same (writes-emits before after sent (markedNotices calendar day (filesOf b)) wrote);
+        notices = subst⁻¹ (λ (x : Result). Emits before after sent (x .notices)) same
+            (writes-emits before after sent (markedNotices calendar day (filesOf b)) wrote);
       };
       numbers = ap numbersOf book ∙ mark-keeps-numbers calendar b day (book-kept-means b .0 well);
     }

@@ -1,3 +1,4 @@
-pub mod Stays
-pub mod Ready
 pub mod InPlace
+pub mod Known
+pub mod Ready
+pub mod Stays

@@ -16,7 +16,8 @@ book-ready b bytes buffer r at past well room h =
     let k = book-kept-means b .0 well in
     let inside : at < length (filesOf b) = omega (arith, h .held .within, count-is b (k .tidy)) in
     record {
-      kept = subst FileKept (getD-take (b .count) (b .files) at past (h .held .within)) (each-at FileKept (filesOf b) at past inside (k .files));
+      kept = subst FileKept (getD-take (b .count) (b .files) at past (h .held .within))
+          (each-at FileKept (filesOf b) at past inside (k .files));
       formed = says bytes r (h .says) .formed;
       from = h .held .from;
       upto = h .held .upto;

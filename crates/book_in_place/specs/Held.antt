@@ -12,12 +12,12 @@ use Rattle.records.specs.Notices.{Emits}
 use Rattle.premise.specs.declared.File.{File}
 use Rattle.premise.specs.WellKept.{FileKept}
 use Rattle.premise.specs.Refusals.{isHeld}
-use Rattle.premise.specs.OnePremise.{Given}
+use Rattle.premise.specs.OnePremise.{Given, givenOn}
 use Rattle.book.specs.declared.Book.{Book}
 use Rattle.book.specs.Book.{bookKept}
-use Rattle.book.specs.Calls.{noticeBytes, givenOn}
-use Rattle.book_in_place.specs.declared.HeldReply.{HeldReply}
-use Rattle.book_look.specs.LookUp.{KnownHeld}
+use Rattle.book.specs.Calls.{noticeBytes}
+use Rattle.book_in_place.specs.declared.laws.HeldReply.{HeldReply}
+use Rattle.book_in_place.specs.LookUp.{KnownHeld}
 
 -- what is asked: a well-kept file, a well-formed record of kinds 3 to 9, and a long enough buffer
 pub record HeldReady (file : File) (r : Record) (buffer : List ℕ) : Type 0 where

@@ -13,11 +13,12 @@ use Rattle.premise.specs.Promises.{Writes}
 use Rattle.book.specs.declared.Book.{Book}
 use Rattle.book.specs.declared.Reply.{Reply}
 use Rattle.book.specs.Book.{filesOf, bookOf, bookKept}
-use Rattle.book.specs.Calls.{noticeBytes, markedFiles, markedNotices, givenOn}
+use Rattle.premise.specs.OnePremise.{givenOn}
+use Rattle.book.specs.Calls.{noticeBytes, markedFiles, markedNotices}
 use Rattle.book.specs.Laws.{withFileAt, numbersOf}
 use Rattle.book.specs.Promise.{Promised}
-use Rattle.book_in_place.specs.declared.HeldReply.{HeldReply}
-use Rattle.book_look.specs.LookUp.{KnownRefused, KnownHeld, KnownMark}
+use Rattle.book_in_place.specs.declared.laws.HeldReply.{HeldReply}
+use Rattle.book_in_place.specs.LookUp.{KnownRefused, KnownHeld, KnownMark}
 use Rattle.book_in_place.specs.Held.{HeldGives}
 
 -- the record call's own promise, and the same premise numbers

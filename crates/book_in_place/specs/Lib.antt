@@ -1,2 +1,3 @@
+pub mod LookUp
 pub mod Held
 pub mod InPlace

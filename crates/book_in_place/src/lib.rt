@@ -1,12 +1,9 @@
-// The book layer, inner: for a player of many records that keeps its book in one place. A refusal leaves the book, a record of kinds 3
-// to 9 on a premise that is held changes that premise's file alone, and a day mark one file after another. That each of these is the
-// record call stands in specs/InPlace.antt. The code of a record on a held premise stands in `book_held`.
-use premise::Answer;
-use premise::File;
+// For a player of many records that keeps its book in one place: what is to be done with a record, and a record of kinds 3 to 9 on its
+// premise's file alone. That each of these is the record call stands in specs/InPlace.antt.
+mod held;
+mod laws;
+mod look;
 
-// What a record on a held premise gives: the answer, how many notices stand in the buffer, and the premise's file afterwards.
-pub struct HeldReply {
-    pub answer: Answer,
-    pub sent: usize,
-    pub file: File,
-}
+pub use held::held_call;
+pub use look::Look;
+pub use look::look_up;

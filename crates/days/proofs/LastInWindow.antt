@@ -38,14 +38,26 @@ module _ (calendar : List ℕ) (width today left day : ℕ) (p : Passing calenda
   passing-business e some =
       record {
         ahead = λ to h. omega (arith, p .ahead to (omega arith), count-here calendar day to (omega arith) e);
-        behind = up-to (omega (arith, p .ahead (day + 1) (omega arith), count-here calendar day (day + 1) (omega arith) e, count-end calendar (day + 1) (day + 1) (omega arith)));
+        behind = up-to (omega (
+          arith,
+          p .ahead (day + 1) (omega arith),
+          count-here calendar day (day + 1) (omega arith) e,
+          count-end calendar (day + 1)
+              (day + 1) (omega arith),
+        ));
       }
 
   pub passing-other : isBusinessDay calendar day ≡ false → Passing calendar width today left (day + 1)
   passing-other e =
       record {
         ahead = λ to h. omega (arith, p .ahead to (omega arith), count-next calendar day to (omega arith) e);
-        behind = up-to (omega (arith, p .ahead (day + 1) (omega arith), count-next calendar day (day + 1) (omega arith) e, count-end calendar (day + 1) (day + 1) (omega arith)));
+        behind = up-to (omega (
+          arith,
+          p .ahead (day + 1) (omega arith),
+          count-next calendar day (day + 1) (omega arith) e,
+          count-end calendar (day + 1)
+              (day + 1) (omega arith),
+        ));
       }
 
   -- a business day that is one too many for the next day is the last in window
@@ -58,7 +70,8 @@ module _ (calendar : List ℕ) (width today left day : ℕ) (p : Passing calenda
           let near : to ≤ day = leb-true to day h in
           simp (le-leb to lastDay (omega arith), le-leb (businessDays calendar today to) width (p .behind to near))
       go false h =
-          let many : width < businessDays calendar today to = omega (arith, p .ahead to (omega (arith, leb-false to day h)), count-here calendar day to (leb-false to day h) e) in
+          let many : width < businessDays calendar today to =
+          omega (arith, p .ahead to (omega (arith, leb-false to day h)), count-here calendar day to (leb-false to day h) e) in
           rw (lt-leb (businessDays calendar today to) width many) (and-no (isDay to))
 
   -- at the last day that there is, no day has too many before it

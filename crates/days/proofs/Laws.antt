@@ -68,22 +68,27 @@ module _ (calendar : List ℕ) (day to : ℕ) where
   count-next h e = omega (arith, count-step h, ap {B = ℕ} (λ (b : Bool). cond b 1 0) e)
 
 -- no switches start on a day, nor on those after it
-none-more : (calendar : List ℕ) (from to : ℕ) → startsSwitches calendar from ≡ false → NoneBefore calendar (suc from) to → NoneBefore calendar from to
+none-more : (calendar : List ℕ) (from to : ℕ) → startsSwitches calendar from ≡ false → NoneBefore calendar (suc from) to
+    → NoneBefore calendar from to
 none-more calendar from to e none day h k = go (eqb day from) refl
   where
     go : (b : Bool) → eqb day from ≡ b → startsSwitches calendar day ≡ false
     go true q = ap (startsSwitches calendar) (eqb-true day from q) ∙ e
     go false q = none day (omega (arith, eqb-false day from q)) k
 
-first-start : (calendar : List ℕ) (many day : ℕ) → many ≡ suc lastDay - day → FirstStart calendar day (firstStart calendar many day) ⊎ NoStart calendar day (firstStart calendar many day)
+first-start : (calendar : List ℕ) (many day : ℕ) → many ≡ suc lastDay - day
+    → FirstStart calendar day (firstStart calendar many day) ⊎ NoStart calendar day (firstStart calendar many day)
 first-start calendar zero day h = inr (record { missing = refl; none = λ d k l. absurd (omega arith) })
 first-start calendar (suc many) day h = go (startsSwitches calendar day) refl (first-start calendar many (suc day) (omega arith))
   where
     go : (b : Bool) → startsSwitches calendar day ≡ b
-        → FirstStart calendar (suc day) (firstStart calendar many (suc day)) ⊎ NoStart calendar (suc day) (firstStart calendar many (suc day))
-        → FirstStart calendar day (cond b day (firstStart calendar many (suc day))) ⊎ NoStart calendar day (cond b day (firstStart calendar many (suc day)))
+        → FirstStart calendar (suc day) (firstStart calendar many (suc day)) ⊎ NoStart calendar (suc day)
+        (firstStart calendar many (suc day))
+        → FirstStart calendar day (cond b day (firstStart calendar many (suc day))) ⊎ NoStart calendar day
+        (cond b day (firstStart calendar many (suc day)))
     go true e ih = inl (record { from = omega arith; day = omega arith; starts = e; none = λ d k l. absurd (omega arith) })
-    go false e (inl f) = inl (record { from = omega (arith, f .from); day = f .day; starts = f .starts; none = none-more calendar day _ e (f .none) })
+    go false e (inl f) = inl
+        (record { from = omega (arith, f .from); day = f .day; starts = f .starts; none = none-more calendar day _ e (f .none) })
     go false e (inr n) = inr (record { missing = n .missing; none = none-more calendar day noDay e (n .none) })
 
 pub switch-date-is : SwitchDateIs
@@ -92,4 +97,5 @@ switch-date-is calendar today = first-start calendar (suc lastDay - today) today
 
 pub past-in-window : PastInWindow
 unfolding inWindow
-past-in-window calendar width today scheduled h k = simp (le-leb scheduled lastDay h, count-end calendar today scheduled k, le-leb 0 width (omega arith))
+past-in-window calendar width today scheduled h k =
+    simp (le-leb scheduled lastDay h, count-end calendar today scheduled k, le-leb 0 width (omega arith))

@@ -1,3 +1,3 @@
-pub mod Laws
 pub mod LastInWindow
+pub mod Laws
 pub mod Pieces

@@ -28,8 +28,8 @@ isBusinessDay calendar day = eqb (kindOfDay calendar day) 0
 abbrev pub startsSwitches : List ℕ → ℕ → Bool
 startsSwitches calendar day = leb (kindOfDay calendar day) 1
 
--- the first of so many days, counted from one on, on which switches start; no day if there is none among them. (The rest is bound by a `let`,
--- so that where it is computed the search stops at the day found.)
+-- the first of so many days, counted from one on, on which switches start; no day if there is none among them. (The rest is bound by a
+-- `let`, so that where it is computed the search stops at the day found.)
 abbrev pub firstStart : List ℕ → ℕ → ℕ → ℕ
 firstStart calendar zero day = noDay
 firstStart calendar (suc many) day = let later : ℕ = firstStart calendar many (suc day) in cond (startsSwitches calendar day) day later

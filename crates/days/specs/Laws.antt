@@ -25,12 +25,15 @@ pub record NoStart (calendar : List ℕ) (today date : ℕ) : Type 0 where
 
 -- the switch date is one or the other
 abbrev pub SwitchDateIs : Type 0
-SwitchDateIs = (calendar : List ℕ) (today : ℕ) → FirstStart calendar today (switchDate calendar today) ⊎ NoStart calendar today (switchDate calendar today)
+SwitchDateIs = (calendar : List ℕ) (today : ℕ)
+    → FirstStart calendar today (switchDate calendar today) ⊎ NoStart calendar today (switchDate calendar today)
 
 -- a scheduled day at or before today is in window, whatever the width
 abbrev pub PastInWindow : Type 0
-PastInWindow = (calendar : List ℕ) (width today scheduled : ℕ) → scheduled ≤ lastDay → scheduled ≤ today → inWindow calendar width today scheduled ≡ true
+PastInWindow = (calendar : List ℕ) (width today scheduled : ℕ) → scheduled ≤ lastDay → scheduled ≤ today
+    → inWindow calendar width today scheduled ≡ true
 
 -- by the last day in window, in window is one test with up to that day: what is said of the one is said of the other
 abbrev pub WindowIsUpTo : Type 0
-WindowIsUpTo = (calendar : List ℕ) (width today last : ℕ) → LastInWindow calendar width today last → inWindow calendar width today ≡ upTo last
+WindowIsUpTo = (calendar : List ℕ) (width today last : ℕ) → LastInWindow calendar width today last
+    → inWindow calendar width today ≡ upTo last

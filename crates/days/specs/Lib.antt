@@ -1,4 +1,4 @@
 pub mod Days
-pub mod Window
 pub mod Laws
 pub mod Pieces
+pub mod Window

@@ -1,5 +1,11 @@
-// The days layer. Here stand its numbers; its rules stand in specs/, from document 01's section "Days". A calendar is lent bytes, one per
-// day. The code: `day_kinds`, of which kind a day is; `day_searches`, the switch date and the last day in window.
+// The days layer. Its numbers; its rules stand in specs/, from document 01's section "Days". A calendar is lent bytes, one per day; each
+// function answers for every calendar and every day number.
+mod kinds;
+mod searches;
+
+pub use kinds::is_business_day;
+pub use searches::last_in_window;
+pub use searches::switch_date;
 
 // The last day that there is.
 pub const LAST_DAY: u16 = 4095;

@@ -18,7 +18,8 @@ pub drop-first : {X : Type 0} (d : X) (l : List X) (i : ℕ) → i < length l �
 drop-first d l i h = rw (add-one i, drop-cons l i d h)
 
 -- the same among the first n, read from the whole list
-pub drop-part : {X : Type 0} (d : X) (l : List X) (n i : ℕ) → n ≤ length l → i < n → drop i (take n l) ≡ getD l i d ∷ drop (i + 1) (take n l)
+pub drop-part : {X : Type 0} (d : X) (l : List X) (n i : ℕ) → n ≤ length l → i < n
+    → drop i (take n l) ≡ getD l i d ∷ drop (i + 1) (take n l)
 drop-part d l n i k h =
     let e : i < length (take n l) = simp length-take (omega arith) in
     rw (drop-first d (take n l) i e, getD-take n l i d h)
@@ -98,7 +99,8 @@ module _ {X : Type 0} (p : X → Bool) where
       go false q = absurd (omega (arith, place-from (suc j) xs k (rw q at e), s))
   without-from j (x ∷ xs) (suc i) k s e = go (p x) refl (without-from (suc j) xs i k (omega (arith, s)))
     where
-      go : (b : Bool) → p x ≡ b → (placeFrom p (suc j) xs ≡ At k → withoutFirst p xs ≡ removed i xs) → withoutFirst p (x ∷ xs) ≡ removed (suc i) (x ∷ xs)
+      go : (b : Bool) → p x ≡ b → (placeFrom p (suc j) xs ≡ At k → withoutFirst p xs ≡ removed i xs)
+          → withoutFirst p (x ∷ xs) ≡ removed (suc i) (x ∷ xs)
       go true q ih = let z : j ≡ k = cc (rw q at e) in absurd (omega (arith, z, s))
       go false q ih = rw q (ap (λ (l : List X). x ∷ l) (ih (rw q at e)) ∙ sym (removed-more x xs i))
 
@@ -119,7 +121,8 @@ module _ {X : Type 0} (p : X → Bool) where
   count-all j [] e = refl
   count-all j (x ∷ xs) e = go (p x) refl (count-all (suc j) xs)
     where
-      go : (b : Bool) → p x ≡ b → (placeFrom (λ x. not (p x)) (suc j) xs ≡ Nothing → countOf p xs ≡ length xs) → countOf p (x ∷ xs) ≡ length (x ∷ xs)
+      go : (b : Bool) → p x ≡ b → (placeFrom (λ x. not (p x)) (suc j) xs ≡ Nothing → countOf p xs ≡ length xs)
+          → countOf p (x ∷ xs) ≡ length (x ∷ xs)
       go true q ih = rw q (omega (arith, ih (rw q at e)))
       go false q ih = apart (sym (rw q at e))
 
@@ -128,6 +131,7 @@ module _ {X : Type 0} (p : X → Bool) where
   count-less j [] i e = apart e
   count-less j (x ∷ xs) i e = go (p x) refl (count-less (suc j) xs i)
     where
-      go : (b : Bool) → p x ≡ b → (placeFrom (λ x. not (p x)) (suc j) xs ≡ At i → countOf p xs < length xs) → countOf p (x ∷ xs) < length (x ∷ xs)
+      go : (b : Bool) → p x ≡ b → (placeFrom (λ x. not (p x)) (suc j) xs ≡ At i → countOf p xs < length xs)
+          → countOf p (x ∷ xs) < length (x ∷ xs)
       go true q ih = rw q (omega (arith, ih (rw q at e)))
       go false q ih = rw q (omega (arith, count-most xs))

@@ -46,4 +46,9 @@ module _ {X : Type 0} (d : X) (new old : List X) where
 
   pub over-set : (i : ℕ) → i < length old → i < length new → set (over i new old) i (getD new i d) ≡ over (i + 1) new old
   unfolding over
-  over-set i h k = rw (next-stored d (take i new) old i (length-take-le i new (omega arith)) h (getD new i d), add-one i, take-suc new i d k)
+  over-set i h k = rw (
+    next-stored d (take i new) old i (length-take-le i new (omega arith)) h (getD new i d),
+    add-one i,
+    take-suc new i d
+        k,
+  )

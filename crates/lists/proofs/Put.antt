@@ -11,7 +11,8 @@ module _ {X : Type 0} (start : ℕ) where
   pub put-none : (l : List X) → putAt start [] l ≡ l
   put-none l =
       let e : start + 0 ≡ start = omega arith in
-      ap (λ (n : ℕ). take start l ++ [] ++ drop n l) e ∙ ap (λ (k : List X). k ++ drop start l) (append-nil (take start l)) ∙ take-append-drop start l
+      ap (λ (n : ℕ). take start l ++ [] ++ drop n l) e ∙ ap (λ (k : List X). k ++ drop start l) (append-nil (take start l))
+      ∙ take-append-drop start l
 
   -- what stands in front of the rest, by length
   front : (xs l : List X) → start + length xs ≤ length l → length (take start l ++ xs) ≡ start + length xs
@@ -21,7 +22,8 @@ module _ {X : Type 0} (start : ℕ) where
   length-put xs l room =
       length-append (take start l ++ xs) (drop (start + length xs) l) ∙ omega (arith, front xs l room, length-drop (start + length xs) l)
 
-  pub put-put : (xs ys l : List X) → start + length (xs ++ ys) ≤ length l → putAt (start + length xs) ys (putAt start xs l) ≡ putAt start (xs ++ ys) l
+  pub put-put : (xs ys l : List X) → start + length (xs ++ ys) ≤ length l
+      → putAt (start + length xs) ys (putAt start xs l) ≡ putAt start (xs ++ ys) l
   put-put xs ys l room =
       let stop = start + length xs in
       let before = take start l ++ xs in

@@ -21,10 +21,12 @@ module _ {A : Type 0} where
   all-of-each p (x ∷ xs) h = ap₂ (λ (a b : Bool). a && b) (h .0) (all-of-each p xs (h .1))
 
   -- ---- a test that only one value passes
-  pub all-are : (p : A → Bool) (one : A) → ((x : A) → p x ≡ true → x ≡ one) → (xs : List A) → allOf p xs ≡ true → xs ≡ replicate (length xs) one
+  pub all-are : (p : A → Bool) (one : A) → ((x : A) → p x ≡ true → x ≡ one) → (xs : List A) → allOf p xs ≡ true
+      → xs ≡ replicate (length xs) one
   all-are p one only [] h = refl
   all-are p one only (x ∷ xs) h =
-      ap₂ (λ (y : A) (ys : List A). y ∷ ys) (only x (and-left (p x) (allOf p xs) h)) (all-are p one only xs (and-right (p x) (allOf p xs) h))
+      ap₂ (λ (y : A) (ys : List A). y ∷ ys) (only x (and-left (p x) (allOf p xs) h))
+      (all-are p one only xs (and-right (p x) (allOf p xs) h))
 
   pub all-same : (p : A → Bool) (one : A) → p one ≡ true → (n : ℕ) → allOf p (replicate n one) ≡ true
   all-same p one h zero = refl
@@ -71,7 +73,8 @@ module _ {A : Type 0} where
   any-without p q (x ∷ xs) h =
       let k = or-right (p x) (anyOf p xs) h in
       let others = any-without p q xs k in
-      by-test (λ (ys : List A). anyOf p ys ≡ false) (q x) xs (x ∷ withoutFirst q xs) (λ e. k) (λ e. ap₂ (λ (a b : Bool). a || b) (or-left (p x) (anyOf p xs) h) others)
+      by-test (λ (ys : List A). anyOf p ys ≡ false) (q x) xs (x ∷ withoutFirst q xs) (λ e. k)
+      (λ e. ap₂ (λ (a b : Bool). a || b) (or-left (p x) (anyOf p xs) h) others)
 
   -- a place that is found lies in the list; if none is found, no element passes
   place-below : (p : A → Bool) (j : ℕ) (xs : List A) (i : ℕ) → placeFrom p j xs ≡ At i → i < j + length xs

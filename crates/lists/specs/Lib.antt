@@ -1,3 +1,3 @@
+pub mod Put
 pub mod Search
 pub mod Shift
-pub mod Put

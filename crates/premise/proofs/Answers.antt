@@ -12,11 +12,14 @@ use Rattle.records.specs.declared.Record.{Record}
 use Rattle.records.specs.Records.{kindCreate, kindRetire, kindDayMark}
 use Rattle.premise.specs.declared.File.{File}
 use Rattle.premise.specs.declared.Answer.{Answer}
-use Rattle.premise.specs.declared.Answer.the-variants.{Accepted, ShortBuffer, NotWellKept, MalformedRecord, NoSuchPremise, PremiseHeld, BookFull, OrderOpen, ReferenceHeld, DayOutOfRange, NoSwitchDate, NotFirstIn, StackFull, NoSuchOrder, StatusNotTaken, NotNextDay}
+use Rattle.premise.specs.declared.Answer.the-variants.{Accepted, ShortBuffer, NotWellKept, MalformedRecord, NoSuchPremise}
+use Rattle.premise.specs.declared.Answer.the-variants.{PremiseHeld, BookFull, OrderOpen, ReferenceHeld, DayOutOfRange, NoSwitchDate}
+use Rattle.premise.specs.declared.Answer.the-variants.{NotFirstIn, StackFull, NoSuchOrder, StatusNotTaken, NotNextDay}
 use Rattle.premise.specs.Steps.{is}
 use Rattle.premise.specs.Refusals.{Row, number, firstRow, rows, isHeld, premiseRows, orderRows}
 use Rattle.premise.specs.OnePremise.{State, Given, effectOn, decide, refused, step}
-use Rattle.premise.specs.Laws.{AnswerIsFirstRow, ZeroWhereNoRow, RefusalIs, RefusalChangesNothing, CreatePasses, OnlyMarksMove, MarkStep, OnlyCreateMakes, OnlyRetireTakes, markedOr}
+use Rattle.premise.specs.Laws.{AnswerIsFirstRow, ZeroWhereNoRow, RefusalIs, RefusalChangesNothing, CreatePasses, OnlyMarksMove}
+use Rattle.premise.specs.Laws.{MarkStep, OnlyCreateMakes, OnlyRetireTakes, markedOr}
 use Rattle.lists.proofs.TestLaws.{by-test, and-left, and-right}
 
 -- ---- any list of rows
@@ -35,7 +38,8 @@ refuses x = not (eqb (number (x .answer)) 0)
 pub zero-first : (rs : List Row) → allOf refuses rs ≡ true → eqb (number (firstRow rs)) 0 ≡ not (anyOf holds rs)
 unfolding number
 zero-first [] h = refl
-zero-first (x ∷ rs) h = go (x .when) (and-left (refuses x) (allOf refuses rs) h) (zero-first rs (and-right (refuses x) (allOf refuses rs) h))
+zero-first (x ∷ rs) h =
+    go (x .when) (and-left (refuses x) (allOf refuses rs) h) (zero-first rs (and-right (refuses x) (allOf refuses rs) h))
   where
     go : (w : Bool) → refuses x ≡ true → eqb (number (firstRow rs)) 0 ≡ not (anyOf holds rs)
         → eqb (number (cond w (x .answer) (firstRow rs))) 0 ≡ not (w || anyOf holds rs)
@@ -79,15 +83,18 @@ Accepts g = g .answer ≡ Accepted
 effect-accepted : (calendar : List ℕ) (today : ℕ) (file : Option File) (r : Record) → effectOn calendar today file r .answer ≡ Accepted
 unfolding Accepts
 effect-accepted calendar today none r = by-test Accepts (is kindCreate r) _ _ (λ e. refl) (λ e. refl)
-effect-accepted calendar today (some f) r = by-test Accepts (is kindRetire r) _ _ (λ e. refl) (λ e. by-test Accepts (is kindDayMark r) _ _ (λ e. refl) (λ e. refl))
+effect-accepted calendar today (some f) r =
+    by-test Accepts (is kindRetire r) _ _ (λ e. refl) (λ e. by-test Accepts (is kindDayMark r) _ _ (λ e. refl) (λ e. refl))
 
 pub answer-is-first-row : AnswerIsFirstRow
 unfolding step
-answer-is-first-row calendar s r = decided (firstRow (rows calendar (s .today) (s .file) r)) _ s (effect-accepted calendar (s .today) (s .file) r)
+answer-is-first-row calendar s r =
+    decided (firstRow (rows calendar (s .today) (s .file) r)) _ s (effect-accepted calendar (s .today) (s .file) r)
 
 pub zero-where-no-row : ZeroWhereNoRow
 zero-where-no-row calendar s r =
-    rw (answer-is-first-row calendar s r) (zero-none _ _ (zero-first (rows calendar (s .today) (s .file) r) (all-refuse calendar (s .today) (s .file) r)))
+    rw (answer-is-first-row calendar s r)
+    (zero-none _ _ (zero-first (rows calendar (s .today) (s .file) r) (all-refuse calendar (s .today) (s .file) r)))
 
 pub refusal-is : RefusalIs
 unfolding step
@@ -98,7 +105,10 @@ refusal-is calendar s r h =
 
 pub refusal-changes-nothing : RefusalChangesNothing
 refusal-changes-nothing calendar s r h =
-    record { state = ap (λ (g : Given). g .state) (refusal-is calendar s r h); silent = ap (λ (g : Given). g .notices) (refusal-is calendar s r h) }
+    record {
+      state = ap (λ (g : Given). g .state) (refusal-is calendar s r h);
+      silent = ap (λ (g : Given). g .notices) (refusal-is calendar s r h);
+    }
 
 -- ---- by the record's kind
 pub create-passes : CreatePasses
@@ -106,17 +116,22 @@ unfolding premiseRows
 create-passes r more h = rw (eqb-true (r .kind) kindCreate h) refl
 
 -- what is done by a record that is no day mark is done on the day that it was
-effect-stays : (calendar : List ℕ) (today : ℕ) (file : Option File) (r : Record) → is kindDayMark r ≡ false → effectOn calendar today file r .state .today ≡ today
+effect-stays : (calendar : List ℕ) (today : ℕ) (file : Option File) (r : Record) → is kindDayMark r ≡ false
+    → effectOn calendar today file r .state .today ≡ today
 effect-stays calendar today none r h = by-test (λ (g : Given). g .state .today ≡ today) (is kindCreate r) _ _ (λ e. refl) (λ e. rw h refl)
-effect-stays calendar today (some f) r h = by-test (λ (g : Given). g .state .today ≡ today) (is kindRetire r) _ _ (λ e. refl) (λ e. rw h refl)
+effect-stays calendar today (some f) r h =
+    by-test (λ (g : Given). g .state .today ≡ today) (is kindRetire r) _ _ (λ e. refl) (λ e. rw h refl)
 
 pub only-marks-move : OnlyMarksMove
 unfolding step
-only-marks-move calendar s r h = either (λ g. g .state .today ≡ s .today) (firstRow (rows calendar (s .today) (s .file) r)) s (effect-stays calendar (s .today) (s .file) r h) refl
+only-marks-move calendar s r h =
+    either (λ g. g .state .today ≡ s .today) (firstRow (rows calendar (s .today) (s .file) r)) s
+    (effect-stays calendar (s .today) (s .file) r h) refl
 
 pub only-create-makes : OnlyCreateMakes
 unfolding step
-only-create-makes calendar today r h = either (λ g. g .state .file ≡ none) (firstRow (rows calendar today none r)) (record { today = today; file = none }) (rw h refl) refl
+only-create-makes calendar today r h =
+    either (λ g. g .state .file ≡ none) (firstRow (rows calendar today none r)) (record { today = today; file = none }) (rw h refl) refl
 
 pub only-retire-takes : OnlyRetireTakes
 unfolding step
@@ -130,17 +145,23 @@ mark-rows : (calendar : List ℕ) (today : ℕ) (file : Option File) (r : Record
 unfolding premiseRows orderRows
 mark-rows calendar today file r e = rw e
 
-mark-effect : (calendar : List ℕ) (today : ℕ) (file : Option File) (r : Record) → r .kind ≡ kindDayMark → effectOn calendar today file r ≡ markedOr calendar (r .day) file
+mark-effect : (calendar : List ℕ) (today : ℕ) (file : Option File) (r : Record) → r .kind ≡ kindDayMark
+    → effectOn calendar today file r ≡ markedOr calendar (r .day) file
 mark-effect calendar today none r e = rw e refl
 mark-effect calendar today (some f) r e = rw e refl
 
 pub mark-step : MarkStep
 unfolding step number
 mark-step calendar s r h =
-    rw (mark-rows calendar (s .today) (s .file) r (eqb-true (r .kind) kindDayMark h), mark-effect calendar (s .today) (s .file) r (eqb-true (r .kind) kindDayMark h))
+    rw (
+      mark-rows calendar (s .today) (s .file) r (eqb-true (r .kind) kindDayMark h),
+      mark-effect calendar (s .today) (s .file) r
+          (eqb-true (r .kind) kindDayMark h),
+    )
     (go (eqb (r .day) (s .today + 1)))
   where
     go : (next : Bool)
-        → decide (cond (not next) NotNextDay Accepted) (markedOr calendar (r .day) (s .file)) s ≡ cond next (markedOr calendar (r .day) (s .file)) (refused NotNextDay s)
+        → decide (cond (not next) NotNextDay Accepted) (markedOr calendar (r .day) (s .file)) s
+        ≡ cond next (markedOr calendar (r .day) (s .file)) (refused NotNextDay s)
     go true = refl
     go false = refl

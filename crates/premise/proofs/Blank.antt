@@ -19,13 +19,13 @@ unfolding isBlank
 blank-is o h =
     let k =
     pass-each (eqb (o .reference) 0)
-    (eqb (o .kind) 0 ∷ eqb (o .retailer) 0 ∷ eqb (o .requested) 0 ∷ eqb (o .scheduled) 0 ∷ eqb (o .status) 0
+    (eqb (o .kind) 0 ∷ eqb (o .submitter) 0 ∷ eqb (o .requested) 0 ∷ eqb (o .scheduled) 0 ∷ eqb (o .status) 0
     ∷ eqb (o .waited .0) 0 ∷ eqb (o .pending .0) 0 ∷ eqb (o .told) 0 ∷ []) h in
     λ i.
     record {
       reference = eqb-true (o .reference) 0 (k .0) i;
       kind = eqb-true (o .kind) 0 (k .1 .0) i;
-      retailer = eqb-true (o .retailer) 0 (k .1 .1 .0) i;
+      submitter = eqb-true (o .submitter) 0 (k .1 .1 .0) i;
       requested = eqb-true (o .requested) 0 (k .1 .1 .1 .0) i;
       scheduled = eqb-true (o .scheduled) 0 (k .1 .1 .1 .1 .0) i;
       status = eqb-true (o .status) 0 (k .1 .1 .1 .1 .1 .0) i;
@@ -46,7 +46,8 @@ blank-means f = (to, λ e. rw e)
     to h =
         let k =
         pass-each (eqb (f .premise) 0)
-        (eqb (f .retailer) 0 ∷ eqb (f .since) 0 ∷ eqb (f .count) 0 ∷ eqb (length (f .orders)) mostOrders ∷ allOf isBlank (f .orders) ∷ []) h in
+        (eqb (f .retailer) 0 ∷ eqb (f .since) 0 ∷ eqb (f .count) 0 ∷ eqb (length (f .orders)) mostOrders ∷ allOf isBlank (f .orders) ∷ [])
+        h in
         let long = eqb-true (length (f .orders)) mostOrders (k .1 .1 .1 .1 .0) in
         let orders = all-are isBlank blank blank-is (f .orders) (k .1 .1 .1 .1 .1 .0) ∙ ap (λ (n : ℕ). replicate n blank) long in
         λ i.

@@ -46,18 +46,21 @@ pub length-orders : (f : File) → Tidy f → length (f .orders) ≡ mostOrders
 length-orders f t = ap length (t .whole) ∙ length-places (held f) (held-few f t)
 
 -- ---- the unused places
-whole-of : (f : File) → f .count ≤ mostOrders → length (f .orders) ≡ mostOrders → allOf isBlank (drop (f .count) (f .orders)) ≡ true → f .orders ≡ places (held f)
+whole-of : (f : File) → f .count ≤ mostOrders → length (f .orders) ≡ mostOrders → allOf isBlank (drop (f .count) (f .orders)) ≡ true
+    → f .orders ≡ places (held f)
 unfolding places
 whole-of f h e b =
     let n = length-take (f .count) (f .orders) in
     let m = length-drop (f .count) (f .orders) in
     let q : length (drop (f .count) (f .orders)) ≡ mostOrders - length (held f) = omega arith in
     sym (take-append-drop (f .count) (f .orders))
-    ∙ ap (λ (l : List Order). held f ++ l) (all-are isBlank blank blank-is (drop (f .count) (f .orders)) b ∙ ap (λ (n : ℕ). replicate n blank) q)
+    ∙ ap (λ (l : List Order). held f ++ l)
+    (all-are isBlank blank blank-is (drop (f .count) (f .orders)) b ∙ ap (λ (n : ℕ). replicate n blank) q)
 
 unused-of : (f : File) → Tidy f → drop (f .count) (f .orders) ≡ replicate (mostOrders - length (held f)) blank
 unfolding places
-unused-of f t = ap (drop (f .count)) (t .whole) ∙ drop-at (held f) (replicate (mostOrders - length (held f)) blank) (f .count) (length-held f t)
+unused-of f t = ap (drop (f .count)) (t .whole)
+    ∙ drop-at (held f) (replicate (mostOrders - length (held f)) blank) (f .count) (length-held f t)
 
 -- ---- well kept
 -- the tests of `fileKept` after the first
@@ -93,7 +96,8 @@ file-test f k =
     let few = le-leb (f .count) mostOrders (k .tidy .few) in
     let long = eq-eqb (length (f .orders)) mostOrders (length-orders f (k .tidy)) in
     let unused = ap (allOf isBlank) (unused-of f (k .tidy)) ∙ all-same isBlank blank blank-passes (mostOrders - length (held f)) in
-    each-pass (aPremise (f .premise)) (tests f) (k .premise, (k .retailer, (k .since, (few, (long, (k .orders, (k .references, (unused, tt))))))))
+    each-pass (aPremise (f .premise)) (tests f)
+    (k .premise, (k .retailer, (k .since, (few, (long, (k .orders, (k .references, (unused, tt))))))))
 
 pub kept-means : KeptMeans
 kept-means f = (file-facts f, file-test f)

@@ -1,7 +1,7 @@
-pub mod Pieces
-pub mod KeptFiles
-pub mod Taken
 pub mod Answers
 pub mod Blank
-pub mod Table
+pub mod KeptFiles
+pub mod Pieces
 pub mod Places
+pub mod Table
+pub mod Taken

@@ -1,5 +1,5 @@
--- What the book's own table rests on: which answers have the numbers 0 and 6, that no row of the one-premise rules has 6, row 4 on a record of a
--- premise that is not held, and row 5 on a create of one that is. Assumes nothing.
+-- What the book's own table rests on: which answers have the numbers 0 and 6, that no row of the one-premise rules has 6, row 4 on a record
+-- of a premise that is not held, and row 5 on a create of one that is. Assumes nothing.
 use Prim.Native.Nat.{ℕ}
 use mathlib.Core.Path.{_≡_, refl, sym, ap, _∙_}
 use mathlib.Core.List.{List, [], _∷_}
@@ -15,7 +15,9 @@ use Rattle.records.specs.declared.Record.{Record}
 use Rattle.records.specs.Records.{kindCreate}
 use Rattle.premise.specs.declared.File.{File}
 use Rattle.premise.specs.declared.Answer.{Answer}
-use Rattle.premise.specs.declared.Answer.the-variants.{Accepted, ShortBuffer, NotWellKept, MalformedRecord, NoSuchPremise, PremiseHeld, BookFull, OrderOpen, ReferenceHeld, DayOutOfRange, NoSwitchDate, NotFirstIn, StackFull, NoSuchOrder, StatusNotTaken, NotNextDay}
+use Rattle.premise.specs.declared.Answer.the-variants.{Accepted, ShortBuffer, NotWellKept, MalformedRecord, NoSuchPremise}
+use Rattle.premise.specs.declared.Answer.the-variants.{PremiseHeld, BookFull, OrderOpen, ReferenceHeld, DayOutOfRange, NoSwitchDate}
+use Rattle.premise.specs.declared.Answer.the-variants.{NotFirstIn, StackFull, NoSuchOrder, StatusNotTaken, NotNextDay}
 use Rattle.premise.specs.Refusals.{Row, number, firstRow, premiseRows, orderRows, rows}
 use Rattle.premise.specs.Laws.{AcceptedIsZero, FullIsSix, NoRow6, NeedsFile, CreateHeld}
 
@@ -74,7 +76,9 @@ unfolding number premiseRows orderRows
 none-is-six calendar today file r = refl
 
 pub no-row-6 : NoRow6
-no-row-6 calendar today file r e = first-not-six (rows calendar today file r) (none-is-six calendar today file r) (full-is-six (firstRow (rows calendar today file r)) .1 e)
+no-row-6 calendar today file r e =
+    first-not-six (rows calendar today file r) (none-is-six calendar today file r)
+    (full-is-six (firstRow (rows calendar today file r)) .1 e)
 
 pub needs-file : NeedsFile
 unfolding premiseRows

@@ -11,13 +11,21 @@ use Rattle.premise.specs.Steps.{taken}
 
 -- a record with its kind written in it: the tests on the kind then compute
 abbrev ofKind : ℕ → Record → Record
-ofKind kind r = record { kind = kind; detail = r .detail; day = r .day; reference = r .reference; premise = r .premise; retailer = r .retailer }
+ofKind kind r = record {
+  kind = kind;
+  detail = r .detail;
+  day = r .day;
+  reference = r .reference;
+  premise = r .premise;
+  retailer = r .retailer;
+}
 
 module _ (r : Record) (o : Order) where
   taken-by : (kind : ℕ) → r .kind ≡ kind → taken r o ≡ taken (ofKind kind r) o
   taken-by kind e = ap (λ (k : ℕ). taken (ofKind k r) o) e
 
-  pub taken-scheduled : r .kind ≡ kindScheduled → taken r o ≡ (hasStatus inReview o || hasStatus permitPending o || hasStatus cancelPending o)
+  pub taken-scheduled : r .kind ≡ kindScheduled
+      → taken r o ≡ (hasStatus inReview o || hasStatus permitPending o || hasStatus cancelPending o)
   unfolding taken
   taken-scheduled e = taken-by kindScheduled e ∙ simp or-false refl
 
@@ -41,8 +49,17 @@ module _ (r : Record) (o : Order) where
   unfolding taken
   taken-reply e = taken-by kindReply e
 
-  pub taken-none : (r .kind ≡ kindScheduled → ⊥) → (r .kind ≡ kindPermit → ⊥) → (r .kind ≡ kindUnexecutable → ⊥) → (r .kind ≡ kindRead → ⊥) → (r .kind ≡ kindCancel → ⊥) → (r .kind ≡ kindReply → ⊥)
+  pub taken-none : (r .kind ≡ kindScheduled → ⊥) → (r .kind ≡ kindPermit → ⊥) → (r .kind ≡ kindUnexecutable → ⊥) → (r .kind ≡ kindRead → ⊥)
+      → (r .kind ≡ kindCancel → ⊥) → (r .kind ≡ kindReply → ⊥)
       → taken r o ≡ false
   unfolding taken
   taken-none s p u m c a =
-      simp (ne-eqb (r .kind) kindScheduled s, ne-eqb (r .kind) kindPermit p, ne-eqb (r .kind) kindUnexecutable u, ne-eqb (r .kind) kindRead m, ne-eqb (r .kind) kindCancel c, ne-eqb (r .kind) kindReply a)
+      simp (
+        ne-eqb (r .kind) kindScheduled s,
+        ne-eqb (r .kind) kindPermit p,
+        ne-eqb (r .kind) kindUnexecutable u,
+        ne-eqb (r .kind) kindRead
+            m,
+        ne-eqb (r .kind) kindCancel c,
+        ne-eqb (r .kind) kindReply a,
+      )

@@ -1,4 +1,5 @@
 -- Document 01, "Clock": each order, oldest first, by its status before the mark.
+-- When a review ends, by N as it has grown.
 use Prim.Native.Nat.{ℕ, _+_, min}
 use mathlib.Core.List.{List, [], _∷_}
 use mathlib.Core.Bool.{Bool, cond, _&&_, _||_}
@@ -56,7 +57,7 @@ permitAwaited business today premise o =
 -- Cancel Pending: W grows by 1; at 7 Cancelled, W 0, notice 5 to the TDSP, then to Q.
 unfoldable pub cancelAwaited : ℕ → Order → Change
 cancelAwaited premise o =
-    cond (leb mostPending (o .pending .0 + 1)) (cancelling premise (o .retailer) o) (same (withPending (o .pending .0 + 1) o))
+    cond (leb mostPending (o .pending .0 + 1)) (cancelling premise (o .submitter) o) (same (withPending (o .pending .0 + 1) o))
 
 -- the clock on one order, on a day that is a business day or not
 unfoldable pub ticked : Bool → ℕ → ℕ → Order → Change
@@ -69,3 +70,7 @@ ticked business today premise o =
 -- the clock on a file's orders
 abbrev pub clock : List ℕ → ℕ → ℕ → List Order → Outcome
 clock calendar today premise os = pass (λ (i : ℕ). ticked (isBusinessDay calendar today) today premise) os
+
+-- N is at least 20, or N is at least 3 and T is at least RD.
+abbrev pub reviewEnds : ℕ → ℕ → ℕ → Bool
+reviewEnds waited requested today = leb longReview waited || leb shortReview waited && leb requested today

@@ -30,11 +30,13 @@ table =
 unfoldable pub refuses : ℕ → ℕ → Bool
 refuses scheduledKind newKind = leb 1 scheduledKind && leb 1 newKind && eqb (getD (getD table (scheduledKind - 1) []) (newKind - 1) N) Y
 
--- A Y counts if the held order is Scheduled with SD equal to the new RD. A new K 3 is also refused if a Scheduled K 3 has SD at or after the new RD.
+-- A Y counts if the held order is Scheduled with SD equal to the new RD. A new K 3 is also refused if a Scheduled K 3 has SD at or after
+-- the new RD.
 unfoldable pub standsInWay : ℕ → ℕ → Order → Bool
 standsInWay newKind requested o =
     hasStatus scheduled o
-    && (eqb (o .scheduled) requested && refuses (o .kind) newKind || eqb newKind standardSwitch && hasKind standardSwitch o && leb requested (o .scheduled))
+    && (eqb (o .scheduled) requested && refuses (o .kind) newKind || eqb newKind standardSwitch && hasKind standardSwitch o
+    && leb requested (o .scheduled))
 
 -- not first in
 unfoldable pub notFirstIn : ℕ → ℕ → List Order → Bool

@@ -31,7 +31,8 @@ BlankMeans = (f : File) → (fileBlank f ≡ true) ↔ (f ≡ blankFile)
 -- ---- the answer
 -- the answer is that of the first row that holds
 abbrev pub AnswerIsFirstRow : Type 0
-AnswerIsFirstRow = (calendar : List ℕ) (s : State) (r : Record) → step calendar s r .answer ≡ firstRow (rows calendar (s .today) (s .file) r)
+AnswerIsFirstRow = (calendar : List ℕ) (s : State) (r : Record)
+    → step calendar s r .answer ≡ firstRow (rows calendar (s .today) (s .file) r)
 
 -- the answer is 0 exactly where no row holds
 abbrev pub ZeroWhereNoRow : Type 0
@@ -96,8 +97,10 @@ MarkStep =
 -- ---- the file
 -- only a create makes a file
 abbrev pub OnlyCreateMakes : Type 0
-OnlyCreateMakes = (calendar : List ℕ) (today : ℕ) (r : Record) → is kindCreate r ≡ false → step calendar (record { today = today; file = none }) r .state .file ≡ none
+OnlyCreateMakes = (calendar : List ℕ) (today : ℕ) (r : Record) → is kindCreate r ≡ false
+    → step calendar (record { today = today; file = none }) r .state .file ≡ none
 
 -- only a retire takes a file away
 abbrev pub OnlyRetireTakes : Type 0
-OnlyRetireTakes = (calendar : List ℕ) (today : ℕ) (f : File) (r : Record) → is kindRetire r ≡ false → isHeld (step calendar (record { today = today; file = some f }) r .state .file) ≡ true
+OnlyRetireTakes = (calendar : List ℕ) (today : ℕ) (f : File) (r : Record) → is kindRetire r ≡ false
+    → isHeld (step calendar (record { today = today; file = some f }) r .state .file) ≡ true

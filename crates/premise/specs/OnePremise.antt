@@ -91,6 +91,10 @@ decide answer done s = cond (eqb (number answer) 0) done (refused answer s)
 unfoldable pub step : List ℕ → State → Record → Given
 step calendar s r = decide (firstRow (rows calendar (s .today) (s .file) r)) (effectOn calendar (s .today) (s .file) r) s
 
+-- the same on T and a file or none by themselves
+abbrev pub givenOn : List ℕ → ℕ → Option File → Record → Given
+givenOn calendar today file r = step calendar (record { today = today; file = file }) r
+
 -- The run over a list of records: what each gives, in order, and the state at the end.
 abbrev pub runs : List ℕ → State → List Record → List Given
 runs calendar s [] = []

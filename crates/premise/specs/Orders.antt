@@ -67,26 +67,76 @@ calendarDays n = record { 0 = n }
 -- An order with one of its fields set anew.
 abbrev pub withStatus : ℕ → Order → Order
 withStatus status o =
-    record { reference = o .reference; kind = o .kind; retailer = o .retailer; requested = o .requested; scheduled = o .scheduled; status = status; waited = o .waited; pending = o .pending; told = o .told }
+    record {
+      reference = o .reference;
+      kind = o .kind;
+      submitter = o .submitter;
+      requested = o .requested;
+      scheduled = o .scheduled;
+      status = status;
+      waited = o .waited;
+      pending = o .pending;
+      told = o .told;
+    }
 
 -- SD
 abbrev pub withScheduled : ℕ → Order → Order
 withScheduled day o =
-    record { reference = o .reference; kind = o .kind; retailer = o .retailer; requested = o .requested; scheduled = day; status = o .status; waited = o .waited; pending = o .pending; told = o .told }
+    record {
+      reference = o .reference;
+      kind = o .kind;
+      submitter = o .submitter;
+      requested = o .requested;
+      scheduled = day;
+      status = o .status;
+      waited = o .waited;
+      pending = o .pending;
+      told = o .told;
+    }
 
 -- N
 abbrev pub withWaited : ℕ → Order → Order
 withWaited days o =
-    record { reference = o .reference; kind = o .kind; retailer = o .retailer; requested = o .requested; scheduled = o .scheduled; status = o .status; waited = businessDays days; pending = o .pending; told = o .told }
+    record {
+      reference = o .reference;
+      kind = o .kind;
+      submitter = o .submitter;
+      requested = o .requested;
+      scheduled = o .scheduled;
+      status = o .status;
+      waited = businessDays days;
+      pending = o .pending;
+      told = o .told;
+    }
 
 -- W
 abbrev pub withPending : ℕ → Order → Order
 withPending days o =
-    record { reference = o .reference; kind = o .kind; retailer = o .retailer; requested = o .requested; scheduled = o .scheduled; status = o .status; waited = o .waited; pending = calendarDays days; told = o .told }
+    record {
+      reference = o .reference;
+      kind = o .kind;
+      submitter = o .submitter;
+      requested = o .requested;
+      scheduled = o .scheduled;
+      status = o .status;
+      waited = o .waited;
+      pending = calendarDays days;
+      told = o .told;
+    }
 
 abbrev pub withTold : ℕ → Order → Order
 withTold told o =
-    record { reference = o .reference; kind = o .kind; retailer = o .retailer; requested = o .requested; scheduled = o .scheduled; status = o .status; waited = o .waited; pending = o .pending; told = told }
+    record {
+      reference = o .reference;
+      kind = o .kind;
+      submitter = o .submitter;
+      requested = o .requested;
+      scheduled = o .scheduled;
+      status = o .status;
+      waited = o .waited;
+      pending = o .pending;
+      told = told;
+    }
 
 -- Cancelled, W 0. (Only Cancel Pending counts W: elsewhere it is 0 already.)
 abbrev pub asCancelled : Order → Order
@@ -94,7 +144,17 @@ asCancelled o = withPending 0 (withStatus cancelled o)
 
 -- an unused place: every field zero
 abbrev pub blank : Order
-blank = record { reference = 0; kind = 0; retailer = 0; requested = 0; scheduled = 0; status = 0; waited = businessDays 0; pending = calendarDays 0; told = 0 }
+blank = record {
+  reference = 0;
+  kind = 0;
+  submitter = 0;
+  requested = 0;
+  scheduled = 0;
+  status = 0;
+  waited = businessDays 0;
+  pending = calendarDays 0;
+  told = 0;
+}
 
 -- the orders that a file holds, oldest first
 abbrev pub held : File → List Order

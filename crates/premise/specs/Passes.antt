@@ -55,7 +55,10 @@ same o = record { order = o; notices = [] }
 -- an order that is Cancelled, W 0, with notice 5 to the TDSP, then to an addressee
 abbrev pub cancelling : ℕ → ℕ → Order → Change
 cancelling premise addressee o =
-    record { order = asCancelled o; notices = notice codeCancel premise tdsp (asCancelled o) ∷ notice codeCancel premise addressee (asCancelled o) ∷ [] }
+    record {
+      order = asCancelled o;
+      notices = notice codeCancel premise tdsp (asCancelled o) ∷ notice codeCancel premise addressee (asCancelled o) ∷ [];
+    }
 
 -- a file's orders afterwards, and the notices
 pub record Outcome : Type 0 where

@@ -10,12 +10,16 @@ use Rattle.days.specs.Days.{noDay}
 use Rattle.days.specs.Pieces as days
 use Rattle.records.specs.declared.Record.{Record}
 use Rattle.records.specs.declared.Notice.{Notice}
-use Rattle.records.specs.Records.{kindCreate, kindRetire, kindNewOrder, kindScheduled, kindPermit, kindUnexecutable, kindRead, kindCancel, kindReply, kindDayMark, moveIn, moveOut, standardSwitch, selfSelectedSwitch, massTransitionDrop, replyAccept, replyReject}
+use Rattle.records.specs.Records.{kindCreate, kindRetire, kindNewOrder, kindScheduled, kindPermit, kindUnexecutable, kindRead, kindCancel}
+use Rattle.records.specs.Records.{kindReply, kindDayMark, moveIn, moveOut, standardSwitch, selfSelectedSwitch, massTransitionDrop}
+use Rattle.records.specs.Records.{replyAccept, replyReject}
 use Rattle.records.specs.Notices.{tdsp}
 use Rattle.premise.specs.declared.Order.{Order}
 use Rattle.premise.specs.declared.File.{File}
-use Rattle.premise.specs.Orders.{inReview, permitPending, scheduled, cancelPending, complete, cancelled, hasStatus, businessDays, calendarDays}
-use Rattle.premise.specs.Passes.{codeOrder, codeMoveOut, codeScheduled, codeLosing, codeCancel, codePermit, codeUnexecutable, codeReject}
+use Rattle.premise.specs.Orders.{inReview, permitPending, scheduled, cancelPending, complete, cancelled, hasStatus, businessDays}
+use Rattle.premise.specs.Orders.{calendarDays}
+use Rattle.premise.specs.Passes.{codeOrder, codeMoveOut, codeScheduled, codeLosing, codeCancel, codePermit, codeUnexecutable}
+use Rattle.premise.specs.Passes.{codeReject}
 use Rattle.premise.specs.WellKept.{orderKept}
 use Rattle.premise.specs.Refusals.{number, ordersOf}
 use Rattle.premise.specs.OnePremise.{State, Given, startState, step, runs, endState}
@@ -29,11 +33,13 @@ retire = record { kind = kindRetire; detail = 0; day = 0; reference = 0; premise
 
 -- an order of a kind, for a day, with a reference and its retailer
 abbrev pub order : ℕ → ℕ → ℕ → ℕ → Record
-order kind day reference retailer = record { kind = kindNewOrder; detail = kind; day = day; reference = reference; premise = 7; retailer = retailer }
+order kind day reference retailer =
+    record { kind = kindNewOrder; detail = kind; day = day; reference = reference; premise = 7; retailer = retailer }
 
 -- a record that names an order: its kind, detail, day, reference and retailer
 abbrev on : ℕ → ℕ → ℕ → ℕ → ℕ → Record
-on kind detail day reference retailer = record { kind = kind; detail = detail; day = day; reference = reference; premise = 7; retailer = retailer }
+on kind detail day reference retailer =
+    record { kind = kind; detail = detail; day = day; reference = reference; premise = 7; retailer = retailer }
 
 abbrev pub schedule : ℕ → ℕ → Record
 schedule reference day = on kindScheduled 0 day reference 0
@@ -142,14 +148,16 @@ abbrev sameCounts : List Order → List Counts → Bool
 sameCounts [] [] = true
 sameCounts [] (c ∷ cs) = false
 sameCounts (o ∷ os) [] = false
-sameCounts (o ∷ os) (c ∷ cs) = eqb (o .waited .0) (c .waited) && eqb (o .pending .0) (c .pending) && eqb (o .told) (c .told) && sameCounts os cs
+sameCounts (o ∷ os) (c ∷ cs) =
+    eqb (o .waited .0) (c .waited) && eqb (o .pending .0) (c .pending) && eqb (o .told) (c .told) && sameCounts os cs
 
 abbrev sameNotices : List Notice → List Sent → Bool
 sameNotices [] [] = true
 sameNotices [] (s ∷ ss) = false
 sameNotices (n ∷ ns) [] = false
 sameNotices (n ∷ ns) (s ∷ ss) =
-    eqb (n .code) (s .code) && eqb (n .day) (s .day) && eqb (n .reference) (s .reference) && eqb (n .addressee) (s .addressee) && eqb (n .premise) 7 && sameNotices ns ss
+    eqb (n .code) (s .code) && eqb (n .day) (s .day) && eqb (n .reference) (s .reference) && eqb (n .addressee) (s .addressee)
+    && eqb (n .premise) 7 && sameNotices ns ss
 
 abbrev suppliedBy : Option File → ℕ → ℕ → Bool
 suppliedBy none retailer since = false
@@ -180,7 +188,8 @@ holds (waits calendar start records orders) = sameCounts (ordersOf (endState cal
 holds (tells calendar start records notices) = sameNotices (lastNotices (runs calendar (startState start) records)) notices
 holds (supplies calendar start records retailer since) = suppliedBy (endState calendar (startState start) records .file) retailer since
 holds (plays calendar start records lines retailer since) =
-    sameLines (runs calendar (startState start) records) lines && suppliedBy (endState calendar (startState start) records .file) retailer since
+    sameLines (runs calendar (startState start) records) lines
+    && suppliedBy (endState calendar (startState start) records .file) retailer since
 holds (keeps o is) = Bool·beq (orderKept o) is
 holds (onDays piece) = days.holds piece
 
@@ -197,16 +206,20 @@ business many = replicate many 0
 abbrev eight : List Record
 eight =
     create 0 101
-    ∷ order massTransitionDrop 5 1 202 ∷ order massTransitionDrop 5 2 202 ∷ order massTransitionDrop 5 3 202 ∷ order massTransitionDrop 5 4 202
-    ∷ order massTransitionDrop 5 5 202 ∷ order massTransitionDrop 5 6 202 ∷ order massTransitionDrop 5 7 202 ∷ order massTransitionDrop 5 8 202
+    ∷ order massTransitionDrop 5 1 202 ∷ order massTransitionDrop 5 2 202 ∷ order massTransitionDrop 5 3 202
+    ∷ order massTransitionDrop 5 4 202
+    ∷ order massTransitionDrop 5 5 202 ∷ order massTransitionDrop 5 6 202 ∷ order massTransitionDrop 5 7 202
+    ∷ order massTransitionDrop 5 8 202
     ∷ []
 
--- on 40 an order of a kind Scheduled for that day; then new ones for it: a move in, a move out, a standard switch, a self-selected switch, a drop
+-- on 40 an order of a kind Scheduled for that day; then new ones for it: a move in, a move out, a standard switch, a self-selected switch,
+-- a drop
 abbrev against : ℕ → ℕ → List Record
 against kind day =
     create 0 101
     ∷ order kind day 1 202 ∷ schedule 1 40
-    ∷ order moveIn 40 2 203 ∷ order moveOut 40 3 203 ∷ order standardSwitch 0 4 203 ∷ order selfSelectedSwitch 40 5 203 ∷ order massTransitionDrop 40 6 203
+    ∷ order moveIn 40 2 203 ∷ order moveOut 40 3 203 ∷ order standardSwitch 0 4 203 ∷ order selfSelectedSwitch 40 5 203
+    ∷ order massTransitionDrop 40 6 203
     ∷ []
 
 -- days of kind 2 from 38 up to one before a day: from 38 that day is the switch date
@@ -230,12 +243,12 @@ abbrev asking : List Record
 asking = create 0 101 ∷ order selfSelectedSwitch 90 1 202 ∷ []
 
 -- an order of 202 for 50: its kind, status, scheduled day, and the days that it has waited and been in Cancel Pending
-abbrev standing : ℕ → ℕ → ℕ → ℕ → ℕ → Order
-standing kind status for waited pending =
+abbrev orderOf202 : ℕ → ℕ → ℕ → ℕ → ℕ → Order
+orderOf202 kind status for waited pending =
     record {
       reference = 1;
       kind = kind;
-      retailer = 202;
+      submitter = 202;
       requested = 50;
       scheduled = for;
       status = status;
@@ -275,10 +288,12 @@ pieces =
     (create 0 101 ∷ order moveOut 390 1 202 ∷ order moveOut 30 2 202 ∷ order moveOut 391 3 202 ∷ order moveOut 29 4 202 ∷ [])
     (0 ∷ 0 ∷ 0 ∷ 9 ∷ 9 ∷ [])
     ∷ answered (business 301) 300
-    (create 0 101 ∷ order selfSelectedSwitch 390 1 202 ∷ order selfSelectedSwitch 30 2 202 ∷ order selfSelectedSwitch 391 3 202 ∷ order selfSelectedSwitch 29 4 202 ∷ [])
+    (create 0 101 ∷ order selfSelectedSwitch 390 1 202 ∷ order selfSelectedSwitch 30 2 202 ∷ order selfSelectedSwitch 391 3 202
+    ∷ order selfSelectedSwitch 29 4 202 ∷ [])
     (0 ∷ 0 ∷ 0 ∷ 9 ∷ 9 ∷ [])
     -- a, a drop has no such limit
-    ∷ answered (business 301) 300 (create 0 101 ∷ order massTransitionDrop 391 1 202 ∷ order massTransitionDrop 29 2 202 ∷ []) (0 ∷ 0 ∷ 0 ∷ [])
+    ∷ answered (business 301) 300 (create 0 101 ∷ order massTransitionDrop 391 1 202 ∷ order massTransitionDrop 29 2 202 ∷ [])
+    (0 ∷ 0 ∷ 0 ∷ [])
     -- b. T 30, move in Scheduled for 40: a move in for 40 gets 11, for 41 passes; a move out for 40 passes
     ∷ answered (business 60) 30
     (create 0 101 ∷ order moveIn 40 1 202 ∷ schedule 1 40 ∷ order moveIn 40 2 203 ∷ order moveIn 41 2 203 ∷ order moveOut 40 3 101 ∷ [])
@@ -294,17 +309,21 @@ pieces =
     ∷ answered (business 50) 40 (against selfSelectedSwitch 40) (0 ∷ 0 ∷ 0 ∷ 0 ∷ 0 ∷ 0 ∷ 11 ∷ 0 ∷ [])
     ∷ answered (business 50) 40 (against massTransitionDrop 40) (0 ∷ 0 ∷ 0 ∷ 0 ∷ 0 ∷ 0 ∷ 0 ∷ 0 ∷ [])
     -- c. K 3 Scheduled for 40: a K 3 with switch date 40 gets 11, with 41 passes
-    ∷ answered (closed 2) 38 (create 0 101 ∷ order standardSwitch 0 1 202 ∷ schedule 1 40 ∷ order standardSwitch 0 2 203 ∷ []) (0 ∷ 0 ∷ 0 ∷ 11 ∷ [])
-    ∷ answered (closed 3) 38 (create 0 101 ∷ order standardSwitch 0 1 202 ∷ schedule 1 40 ∷ order standardSwitch 0 2 203 ∷ []) (0 ∷ 0 ∷ 0 ∷ 0 ∷ [])
+    ∷ answered (closed 2) 38 (create 0 101 ∷ order standardSwitch 0 1 202 ∷ schedule 1 40 ∷ order standardSwitch 0 2 203 ∷ [])
+    (0 ∷ 0 ∷ 0 ∷ 11 ∷ [])
+    ∷ answered (closed 3) 38 (create 0 101 ∷ order standardSwitch 0 1 202 ∷ schedule 1 40 ∷ order standardSwitch 0 2 203 ∷ [])
+    (0 ∷ 0 ∷ 0 ∷ 0 ∷ [])
     -- c, K 3 Scheduled for 45, after the switch date 40: 11 too
-    ∷ answered (closed 2) 38 (create 0 101 ∷ order standardSwitch 0 1 202 ∷ schedule 1 45 ∷ order standardSwitch 0 2 203 ∷ []) (0 ∷ 0 ∷ 0 ∷ 11 ∷ [])
+    ∷ answered (closed 2) 38 (create 0 101 ∷ order standardSwitch 0 1 202 ∷ schedule 1 45 ∷ order standardSwitch 0 2 203 ∷ [])
+    (0 ∷ 0 ∷ 0 ∷ 11 ∷ [])
     -- c, without a switch date, on one of the last days and past the calendar: 10
     ∷ answered (business 30) 4094 (create 0 101 ∷ order standardSwitch 0 1 202 ∷ []) (0 ∷ 10 ∷ [])
     -- e. 8 open: 12. One of them closed: accepted, that one gone
     ∷ answered (business 20) 10 (eight ++ (order massTransitionDrop 5 9 202 ∷ unexecuted 3 ∷ order massTransitionDrop 5 9 202 ∷ []))
     (0 ∷ 0 ∷ 0 ∷ 0 ∷ 0 ∷ 0 ∷ 0 ∷ 0 ∷ 0 ∷ 12 ∷ 0 ∷ 0 ∷ [])
     ∷ left (business 20) 10 (eight ++ (unexecuted 3 ∷ order massTransitionDrop 5 9 202 ∷ []))
-    (stands 1 inReview ∷ stands 2 inReview ∷ stands 4 inReview ∷ stands 5 inReview ∷ stands 6 inReview ∷ stands 7 inReview ∷ stands 8 inReview ∷ stands 9 inReview ∷ [])
+    (stands 1 inReview ∷ stands 2 inReview ∷ stands 4 inReview ∷ stands 5 inReview ∷ stands 6 inReview ∷ stands 7 inReview
+    ∷ stands 8 inReview ∷ stands 9 inReview ∷ [])
     -- f. Unanswered move in, RD and arrival day 50: Cancel Pending at 52, still at 58, Cancelled at 59
     ∷ daily (business 60) 50 arrives (replicate 2 inReview ++ replicate 7 cancelPending ++ (cancelled ∷ []))
     ∷ tells (business 60) 50 (arrives ++ marks 2 51) (sent codeCancel 4096 1 tdsp ∷ [])
@@ -332,11 +351,14 @@ pieces =
     ∷ left (business 40) 25 (threeSwitches ++ marks 2 26) (stands 1 cancelPending ∷ stands 2 scheduled ∷ stands 3 scheduled ∷ [])
     ∷ left (business 40) 25 (threeSwitches ++ marks 3 26) (stands 1 cancelled ∷ stands 2 scheduled ∷ stands 3 cancelled ∷ [])
     ∷ tells (business 40) 25 (threeSwitches ++ marks 3 26)
-    (sent codeCancel 30 1 tdsp ∷ sent codeCancel 30 1 202 ∷ sent codeCancel 30 3 tdsp ∷ sent codeCancel 30 3 204 ∷ sent codeLosing 30 2 101 ∷ [])
+    (sent codeCancel 30 1 tdsp ∷ sent codeCancel 30 1 202 ∷ sent codeCancel 30 3 tdsp ∷ sent codeCancel 30 3 204 ∷ sent codeLosing 30 2 101
+    ∷ [])
     -- h, with all three Cancel Pending: the oldest is kept
-    ∷ left (business 40) 25 (threeSwitches ++ (cancel 2 203 ∷ cancel 3 204 ∷ []) ++ marks 3 26) (stands 1 cancelPending ∷ stands 2 cancelled ∷ stands 3 cancelled ∷ [])
+    ∷ left (business 40) 25 (threeSwitches ++ (cancel 2 203 ∷ cancel 3 204 ∷ []) ++ marks 3 26)
+    (stands 1 cancelPending ∷ stands 2 cancelled ∷ stands 3 cancelled ∷ [])
     -- h, switches of two days do not meet
-    ∷ left (business 20) 10 (switching 101 11 ++ (order selfSelectedSwitch 50 2 203 ∷ schedule 2 12 ∷ [])) (stands 1 scheduled ∷ stands 2 scheduled ∷ [])
+    ∷ left (business 20) 10 (switching 101 11 ++ (order selfSelectedSwitch 50 2 203 ∷ schedule 2 12 ∷ []))
+    (stands 1 scheduled ∷ stands 2 scheduled ∷ [])
     -- i. T 10: SD 12 is in window, 13 not
     ∷ tells (business 20) 10 (switching 101 12) (sent codeScheduled 12 1 202 ∷ sent codeLosing 12 1 101 ∷ [])
     ∷ tells (business 20) 10 (switching 101 13) (sent codeScheduled 13 1 202 ∷ [])
@@ -354,10 +376,12 @@ pieces =
     ∷ supplies (business 40) 30 (create 20 101 ∷ order moveIn 30 1 202 ∷ schedule 1 20 ∷ read 1 20 ∷ []) 202 20
     ∷ supplies (business 40) 30 (create 20 101 ∷ order moveOut 30 1 101 ∷ schedule 1 21 ∷ read 1 21 ∷ []) 0 21
     -- the second pass: a drop gives way to a switch of its day; its retailer is told if there is one
-    ∷ tells (business 20) 10 (dropAndSwitch 101) (sent codeScheduled 12 2 203 ∷ sent codeCancel 12 1 tdsp ∷ sent codeCancel 12 1 101 ∷ sent codeLosing 12 2 101 ∷ [])
+    ∷ tells (business 20) 10 (dropAndSwitch 101)
+    (sent codeScheduled 12 2 203 ∷ sent codeCancel 12 1 tdsp ∷ sent codeCancel 12 1 101 ∷ sent codeLosing 12 2 101 ∷ [])
     ∷ tells (business 20) 10 (dropAndSwitch 0) (sent codeScheduled 12 2 203 ∷ sent codeCancel 12 1 tdsp ∷ [])
     -- the second pass: a switch that is Cancel Pending displaces no drop
-    ∷ left (business 20) 10 (switching 101 12 ++ (cancel 1 202 ∷ order massTransitionDrop 12 2 203 ∷ schedule 2 12 ∷ [])) (stands 1 cancelPending ∷ stands 2 scheduled ∷ [])
+    ∷ left (business 20) 10 (switching 101 12 ++ (cancel 1 202 ∷ order massTransitionDrop 12 2 203 ∷ schedule 2 12 ∷ []))
+    (stands 1 cancelPending ∷ stands 2 scheduled ∷ [])
     -- the third pass goes by requested days: 50 before 55 gives way, 53 before 50 does not, though 54 is the scheduled day
     ∷ left (business 60) 54 (twoMoveIns 50 55 52) (stands 1 cancelled ∷ stands 2 scheduled ∷ [])
     ∷ left (business 60) 54 (twoMoveIns 53 50 54) (stands 1 permitPending ∷ stands 2 scheduled ∷ [])
@@ -367,7 +391,8 @@ pieces =
     (sent codeScheduled 52 2 203 ∷ sent codeCancel 4096 1 tdsp ∷ sent codeCancel 4096 1 202 ∷ sent codeLosing 52 2 101 ∷ [])
     -- unexecutable: its retailer is told, and the premise's if it had been told and is not 0
     ∷ tells (business 20) 10 (switching 101 13 ++ (unexecuted 1 ∷ [])) (sent codeUnexecutable 13 1 202 ∷ [])
-    ∷ tells (business 20) 10 (switching 101 12 ++ (unexecuted 1 ∷ [])) (sent codeUnexecutable 12 1 202 ∷ sent codeUnexecutable 12 1 101 ∷ [])
+    ∷ tells (business 20) 10 (switching 101 12 ++ (unexecuted 1 ∷ []))
+    (sent codeUnexecutable 12 1 202 ∷ sent codeUnexecutable 12 1 101 ∷ [])
     ∷ tells (business 20) 10 (switching 0 12 ++ (unexecuted 1 ∷ [])) (sent codeUnexecutable 12 1 202 ∷ [])
     -- a cancel and its reply: reject goes back to Scheduled, or to In Review where there is no day; N stays, W is 0
     ∷ tells (business 70) 50 (asking ++ (cancel 1 202 ∷ [])) (sent codeCancel 4096 1 tdsp ∷ [])
@@ -401,18 +426,19 @@ pieces =
     (create 0 101 ∷ order moveIn 80 1 202 ∷ marks 19 51 ++ (reply replyReject 1 ∷ mark 70 ∷ reply replyReject 1 ∷ mark 71 ∷ []))
     (counts 21 0 0 ∷ [])
     -- well kept: SD none in statuses 1 and 2 and a day in 3 and 5
-    ∷ keeps (standing moveIn inReview noDay 21 0) true ∷ keeps (standing moveIn inReview 12 21 0) false
-    ∷ keeps (standing moveIn permitPending noDay 0 0) true ∷ keeps (standing moveIn permitPending 12 0 0) false
-    ∷ keeps (standing moveIn scheduled 12 0 0) true ∷ keeps (standing moveIn scheduled noDay 0 0) false
-    ∷ keeps (standing moveIn complete noDay 0 0) false ∷ keeps (standing moveIn cancelled noDay 0 0) true
+    ∷ keeps (orderOf202 moveIn inReview noDay 21 0) true ∷ keeps (orderOf202 moveIn inReview 12 21 0) false
+    ∷ keeps (orderOf202 moveIn permitPending noDay 0 0) true ∷ keeps (orderOf202 moveIn permitPending 12 0 0) false
+    ∷ keeps (orderOf202 moveIn scheduled 12 0 0) true ∷ keeps (orderOf202 moveIn scheduled noDay 0 0) false
+    ∷ keeps (orderOf202 moveIn complete noDay 0 0) false ∷ keeps (orderOf202 moveIn cancelled noDay 0 0) true
     -- well kept: status 2 only with K 1, N at most 21, W at most 6 in status 4 and 0 elsewhere
-    ∷ keeps (standing moveOut permitPending noDay 0 0) false
-    ∷ keeps (standing moveIn inReview noDay 22 0) false
-    ∷ keeps (standing moveIn cancelPending noDay 0 6) true ∷ keeps (standing moveIn cancelPending noDay 0 7) false
-    ∷ keeps (standing moveIn inReview noDay 0 1) false
+    ∷ keeps (orderOf202 moveOut permitPending noDay 0 0) false
+    ∷ keeps (orderOf202 moveIn inReview noDay 22 0) false
+    ∷ keeps (orderOf202 moveIn cancelPending noDay 0 6) true ∷ keeps (orderOf202 moveIn cancelPending noDay 0 7) false
+    ∷ keeps (orderOf202 moveIn inReview noDay 0 1) false
     -- document 01's own tape, for premise 7, line by line
     ∷ plays (business 4096) 0 (create 0 101 ∷ order standardSwitch 0 1 202 ∷ schedule 1 0 ∷ read 1 0 ∷ [])
-    (line 0 [] ∷ line 0 (sent codeOrder 0 1 tdsp ∷ []) ∷ line 0 (sent codeScheduled 0 1 202 ∷ sent codeLosing 0 1 101 ∷ []) ∷ line 0 [] ∷ [])
+    (line 0 [] ∷ line 0 (sent codeOrder 0 1 tdsp ∷ []) ∷ line 0 (sent codeScheduled 0 1 202 ∷ sent codeLosing 0 1 101 ∷ []) ∷ line 0 []
+    ∷ [])
     202 0
     -- d and i, about days alone
     ∷ map onDays days.pieces

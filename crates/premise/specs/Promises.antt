@@ -5,17 +5,20 @@ use mathlib.Core.List.{List, _++_}
 use mathlib.Core.Option.{Option, none, some}
 use mathlib.Core.Bool.{true, false, cond}
 use lib.ListN.{length, take, drop}
+use Rattle.days.specs.Window.{windowWidth, LastInWindow}
+use Rattle.records.specs.declared.Record.{Record}
 use Rattle.records.specs.declared.Notice.{Notice}
 use Rattle.records.specs.Layout.{recordLength}
 use Rattle.records.specs.Notices.{encodeAll}
+use Rattle.records.specs.Records.{kindCreate, kindReply}
 use Rattle.premise.specs.declared.File.{File}
 use Rattle.premise.specs.declared.FileOrNone.{FileOrNone}
-use Rattle.premise.specs.declared.Stepped.{Stepped}
-use Rattle.premise.specs.declared.Passed.{Passed}
-use Rattle.premise.specs.declared.Replied.{Replied}
+use Rattle.premise.specs.declared.OrderAfter.{OrderAfter}
+use Rattle.premise.specs.declared.FileAfter.{FileAfter}
+use Rattle.premise.specs.declared.PremiseAfter.{PremiseAfter}
 use Rattle.premise.specs.Orders.{blankFile}
 use Rattle.premise.specs.Passes.{Change, Effect}
-use Rattle.premise.specs.OnePremise.{Given}
+use Rattle.premise.specs.OnePremise.{Given, givenOn}
 use Rattle.premise.specs.WellKept.{Tidy}
 
 -- room for some notices behind those that stand in the buffer already
@@ -28,12 +31,12 @@ pub record Writes (standing : ℕ) (before after : List ℕ) (n : ℕ) (notices 
   pub bytes : after ≡ take (recordLength * standing) before ++ encodeAll notices ++ drop (recordLength * (standing + length notices)) before
 
 -- a function on one order
-pub record DoneToOrder (change : Change) (standing : ℕ) (r : Stepped) (before after : List ℕ) : Type 0 where
+pub record DoneToOrder (change : Change) (standing : ℕ) (r : OrderAfter) (before after : List ℕ) : Type 0 where
   pub order : r .order ≡ change .order
   pub wrote : Writes standing before after (r .sent) (change .notices)
 
 -- a function on a file
-pub record DoneToFile (effect : Effect) (standing : ℕ) (r : Passed) (before after : List ℕ) : Type 0 where
+pub record DoneToFile (effect : Effect) (standing : ℕ) (r : FileAfter) (before after : List ℕ) : Type 0 where
   pub file : r .file ≡ effect .file
   pub wrote : Writes standing before after (r .sent) (effect .notices)
 
@@ -51,7 +54,28 @@ pub record TidyOrNone (s : FileOrNone) : Type 0 where
   pub tidy : s .held ≡ true → Tidy (s .file)
 
 -- a record on a file or none
-pub record Answered (given : Given) (standing : ℕ) (r : Replied) (before after : List ℕ) : Type 0 where
+pub record Answered (given : Given) (standing : ℕ) (r : PremiseAfter) (before after : List ℕ) : Type 0 where
   pub answer : r .answer ≡ given .answer
   pub file : r .after ≡ asStruct (given .state .file)
   pub wrote : Writes standing before after (r .sent) (given .notices)
+
+-- ---- what they ask besides
+-- where a file is evaluated: a tidy file, room for the notices that come of it, and the last day in window
+pub record Evaluable (calendar : List ℕ) (today last : ℕ) (f : File) (notices : List Notice) (standing : ℕ) (buffer : List ℕ) : Type 0 where
+  pub tidy : Tidy f
+  pub room : Room standing notices buffer
+  pub window : LastInWindow calendar windowWidth today last
+
+-- a record of the kinds from a number on, up to the cancel reply, on a file
+pub record OnFile (least : ℕ) (calendar : List ℕ) (today : ℕ) (f : File) (r : Record) (standing : ℕ) (buffer : List ℕ) : Type 0 where
+  pub tidy : Tidy f
+  pub from : least ≤ r .kind
+  pub upto : r .kind ≤ kindReply
+  pub room : Room standing (givenOn calendar today (some f) r .notices) buffer
+
+-- a record of kinds 1 to 9 on a file or none
+pub record OnFileOrNone (calendar : List ℕ) (today : ℕ) (s : FileOrNone) (r : Record) (standing : ℕ) (buffer : List ℕ) : Type 0 where
+  pub tidy : TidyOrNone s
+  pub from : kindCreate ≤ r .kind
+  pub upto : r .kind ≤ kindReply
+  pub room : Room standing (givenOn calendar today (asOption s) r .notices) buffer

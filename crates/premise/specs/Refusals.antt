@@ -10,11 +10,14 @@ use Rattle.lists.specs.declared.Found.{Found}
 use Rattle.lists.specs.declared.Found.the-variants.{At, Nothing}
 use Rattle.days.specs.Days.{noDay, switchDate}
 use Rattle.records.specs.declared.Record.{Record}
-use Rattle.records.specs.Records.{kindCreate, kindRetire, kindNewOrder, kindScheduled, kindCancel, kindReply, kindDayMark, moveIn, moveOut, standardSwitch, selfSelectedSwitch}
+use Rattle.records.specs.Records.{kindCreate, kindRetire, kindNewOrder, kindScheduled, kindCancel, kindReply, kindDayMark, moveIn, moveOut}
+use Rattle.records.specs.Records.{standardSwitch, selfSelectedSwitch}
 use Rattle.premise.specs.declared.Order.{Order}
 use Rattle.premise.specs.declared.File.{File}
 use Rattle.premise.specs.declared.Answer.{Answer}
-use Rattle.premise.specs.declared.Answer.the-variants.{Accepted, ShortBuffer, NotWellKept, MalformedRecord, NoSuchPremise, PremiseHeld, BookFull, OrderOpen, ReferenceHeld, DayOutOfRange, NoSwitchDate, NotFirstIn, StackFull, NoSuchOrder, StatusNotTaken, NotNextDay}
+use Rattle.premise.specs.declared.Answer.the-variants.{Accepted, ShortBuffer, NotWellKept, MalformedRecord, NoSuchPremise}
+use Rattle.premise.specs.declared.Answer.the-variants.{PremiseHeld, BookFull, OrderOpen, ReferenceHeld, DayOutOfRange, NoSwitchDate}
+use Rattle.premise.specs.declared.Answer.the-variants.{NotFirstIn, StackFull, NoSuchOrder, StatusNotTaken, NotNextDay}
 use Rattle.premise.specs.Orders.{mostOrders, isOpen, held}
 use Rattle.premise.specs.Steps.{is, requestedDay, named, orderAt, taken}
 use Rattle.premise.specs.FirstIn.{notFirstIn}
@@ -101,7 +104,8 @@ orderRows calendar today os r =
     ∷ row NoSwitchDate (is kindNewOrder r && eqb (r .detail) standardSwitch && eqb (switchDate calendar today) noDay)
     ∷ row NotFirstIn (is kindNewOrder r && notFirstIn (r .detail) (requestedDay calendar today r) os)
     ∷ row StackFull (is kindNewOrder r && eqb (countOf isOpen os) mostOrders)
-    ∷ row NoSuchOrder (namesOrder r && (isNothing (named r os) || is kindCancel r && not (eqb (r .retailer) (orderAt os (named r os) .retailer))))
+    ∷ row NoSuchOrder (namesOrder r
+    && (isNothing (named r os) || is kindCancel r && not (eqb (r .retailer) (orderAt os (named r os) .submitter))))
     ∷ row StatusNotTaken (namesOrder r && not (taken r (orderAt os (named r os))))
     ∷ row NotNextDay (is kindDayMark r && not (eqb (r .day) (today + 1)))
     ∷ []

@@ -10,11 +10,15 @@ use Rattle.lists.specs.declared.Found.the-variants.{At, Nothing}
 use Rattle.days.specs.Days.{noDay, isDay, isBusinessDay, switchDate}
 use Rattle.records.specs.declared.Record.{Record}
 use Rattle.records.specs.Notices.{tdsp}
-use Rattle.records.specs.Records.{kindScheduled, kindPermit, kindUnexecutable, kindRead, kindCancel, kindReply, moveIn, moveOut, standardSwitch, replyAccept}
+use Rattle.records.specs.Records.{kindScheduled, kindPermit, kindUnexecutable, kindRead, kindCancel, kindReply, moveIn, moveOut}
+use Rattle.records.specs.Records.{standardSwitch, replyAccept}
 use Rattle.premise.specs.declared.Order.{Order}
 use Rattle.premise.specs.declared.File.{File}
-use Rattle.premise.specs.Orders.{mostOrders, inReview, permitPending, scheduled, cancelPending, complete, cancelled, unexecutable, hasStatus, hasKind, isOpen, isClosed, noRetailer, businessDays, calendarDays, withStatus, withScheduled, withWaited, withPending, blank, held, withOrders, withSupply}
-use Rattle.premise.specs.Passes.{Change, Effect, notice, codeOrder, codeMoveOut, codeScheduled, codeCancel, codePermit, codeUnexecutable, codeReject}
+use Rattle.premise.specs.Orders.{mostOrders, inReview, permitPending, scheduled, cancelPending, complete, cancelled, unexecutable}
+use Rattle.premise.specs.Orders.{hasStatus, hasKind, isOpen, isClosed, noRetailer, businessDays, calendarDays, withStatus}
+use Rattle.premise.specs.Orders.{withScheduled, withWaited, withPending, blank, held, withOrders, withSupply}
+use Rattle.premise.specs.Passes.{Change, Effect, notice, codeOrder, codeMoveOut, codeScheduled, codeCancel, codePermit}
+use Rattle.premise.specs.Passes.{codeUnexecutable, codeReject}
 
 -- whether a record is of a kind
 abbrev pub is : ℕ → Record → Bool
@@ -34,7 +38,7 @@ newOrder calendar today r =
     record {
       reference = r .reference;
       kind = r .detail;
-      retailer = r .retailer;
+      submitter = r .retailer;
       requested = requestedDay calendar today r;
       scheduled = noDay;
       status = inReview;
@@ -79,7 +83,7 @@ unfoldable pub onScheduled : File → Record → Order → Change
 onScheduled f r o =
     record {
       order = withPending 0 (withScheduled (r .day) (withStatus scheduled o));
-      notices = notice codeScheduled (f .premise) (o .retailer) (withPending 0 (withScheduled (r .day) (withStatus scheduled o))) ∷ [];
+      notices = notice codeScheduled (f .premise) (o .submitter) (withPending 0 (withScheduled (r .day) (withStatus scheduled o))) ∷ [];
     }
 
 -- 5 permit required: Permit Pending, N 0. Notice 6 to Q.
@@ -87,7 +91,7 @@ unfoldable pub onPermit : File → Record → Order → Change
 onPermit f r o =
     record {
       order = withWaited 0 (withStatus permitPending o);
-      notices = notice codePermit (f .premise) (o .retailer) (withWaited 0 (withStatus permitPending o)) ∷ [];
+      notices = notice codePermit (f .premise) (o .submitter) (withWaited 0 (withStatus permitPending o)) ∷ [];
     }
 
 -- 6 unexecutable: Unexecutable, W 0. Notice 7 to Q; if told and R is not 0, then also to R.
@@ -96,7 +100,7 @@ onUnexecutable f r o =
     record {
       order = withPending 0 (withStatus unexecutable o);
       notices =
-          notice codeUnexecutable (f .premise) (o .retailer) (withPending 0 (withStatus unexecutable o))
+          notice codeUnexecutable (f .premise) (o .submitter) (withPending 0 (withStatus unexecutable o))
           ∷ cond (eqb (o .told) 1 && not (eqb (f .retailer) noRetailer))
           (notice codeUnexecutable (f .premise) (f .retailer) (withPending 0 (withStatus unexecutable o)) ∷ [])
           [];
@@ -114,7 +118,7 @@ onRead f r o =
 unfoldable pub supplied : File → Record → Order → File
 supplied f r o =
     cond (is kindRead r && hasStatus scheduled o && leb (f .since) (r .day))
-    (withSupply f (cond (hasKind moveOut o) noRetailer (o .retailer)) (r .day))
+    (withSupply f (cond (hasKind moveOut o) noRetailer (o .submitter)) (r .day))
     f
 
 -- 8 cancel: Cancel Pending, W 0. Notice 5 to the TDSP.
@@ -131,11 +135,12 @@ onReply f r o =
     cond (eqb (r .detail) replyAccept)
     (record {
       order = withPending 0 (withStatus cancelled o);
-      notices = notice codeCancel (f .premise) (o .retailer) (withPending 0 (withStatus cancelled o)) ∷ [];
+      notices = notice codeCancel (f .premise) (o .submitter) (withPending 0 (withStatus cancelled o)) ∷ [];
     })
     (record {
       order = withPending 0 (withStatus (cond (isDay (o .scheduled)) scheduled inReview) o);
-      notices = notice codeReject (f .premise) (o .retailer) (withPending 0 (withStatus (cond (isDay (o .scheduled)) scheduled inReview) o)) ∷ [];
+      notices = notice codeReject (f .premise) (o .submitter)
+          (withPending 0 (withStatus (cond (isDay (o .scheduled)) scheduled inReview) o)) ∷ [];
     })
 
 -- kinds 4 to 9 on the order that they name

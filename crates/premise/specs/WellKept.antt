@@ -10,7 +10,8 @@ use Rattle.days.specs.Days.{noDay, isDay}
 use Rattle.records.specs.Records.{moveIn, aReference, aPremise, aRetailer, aRetailerOrNone, anOrderKind}
 use Rattle.premise.specs.declared.Order.{Order}
 use Rattle.premise.specs.declared.File.{File}
-use Rattle.premise.specs.Orders.{mostOrders, inReview, permitPending, scheduled, cancelPending, complete, unexecutable, hasStatus, hasKind, held, places}
+use Rattle.premise.specs.Orders.{mostOrders, inReview, permitPending, scheduled, cancelPending, complete, unexecutable, hasStatus}
+use Rattle.premise.specs.Orders.{hasKind, held, places}
 use Rattle.premise.specs.Clock.{mostWaited, mostPending}
 
 -- SD none in statuses 1 and 2 and a day in 3 and 5; in the others a day or none.
@@ -33,7 +34,7 @@ unfoldable pub orderKept : Order → Bool
 orderKept o =
     aReference (o .reference)
     && anOrderKind (o .kind)
-    && aRetailer (o .retailer)
+    && aRetailer (o .submitter)
     && isDay (o .requested)
     && (leb inReview (o .status) && leb (o .status) unexecutable)
     && dayFits o
@@ -52,7 +53,7 @@ unfoldable pub isBlank : Order → Bool
 isBlank o =
     eqb (o .reference) 0
     && eqb (o .kind) 0
-    && eqb (o .retailer) 0
+    && eqb (o .submitter) 0
     && eqb (o .requested) 0
     && eqb (o .scheduled) 0
     && eqb (o .status) 0

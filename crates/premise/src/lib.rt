@@ -1,8 +1,6 @@
-// The premise layer: one premise, its file and its orders. Here stand its types; the rules over them stand in specs/, section by
-// section from document 01, and what the layer above may rely on is stated in specs/Laws.antt, and of its steps in `premise_laws`. The helper
-// crates of the layer, `premise_notices` to `premise_steps`, do in code what the rules say. The layer above calls `record_bytes::read_record`,
-// `premise_kept::file_kept`, `premise_unused::file_blank`, `premise_files::blank_file`, `premise_steps::on_record`, `premise_marks::mark` and
-// `premise_quiet::is_touched`; everything else is inner.
+// The premise layer's rules: one premise, its file and its orders. Here stand its types; the rules over them stand in specs/, section by
+// section from document 01, with the set pieces. What the layer above may rely on is stated in specs/Laws.antt, and of the steps in
+// `premise_laws`. The crates `premise_file` to `premise_steps` do in code what the rules say.
 
 // How many orders a file holds at most.
 pub const MOST_ORDERS: usize = 8;
@@ -42,7 +40,7 @@ pub struct Order {
     pub reference: u32,
     pub kind: u8,
     // the submitting retailer, for a drop the gaining one
-    pub retailer: u32,
+    pub submitter: u32,
     pub requested: u16,
     // the scheduled day, or no day
     pub scheduled: u16,
@@ -91,19 +89,19 @@ pub enum Answer {
 }
 
 // An order after a step, and how many notices stand in the buffer then.
-pub struct Stepped {
+pub struct OrderAfter {
     pub order: Order,
     pub sent: usize,
 }
 
 // A file after a pass or a day mark, and how many notices stand in the buffer then.
-pub struct Passed {
+pub struct FileAfter {
     pub file: File,
     pub sent: usize,
 }
 
 // What a record on a file or none gives: the answer, how many notices stand in the buffer, and the file or none afterwards.
-pub struct Replied {
+pub struct PremiseAfter {
     pub answer: Answer,
     pub sent: usize,
     pub after: FileOrNone,

@@ -15,7 +15,8 @@ use Rattle.days.specs.Window.{businessDays, inWindow}
 use Rattle.premise.specs.declared.Order.{Order}
 use Rattle.premise.specs.Orders.{inReview, permitPending, scheduled, cancelPending, cancelled, hasStatus, isSwitch}
 use Rattle.premise.specs.Clock.{toCancelPending, ticked, reviewed, permitAwaited, cancelAwaited}
-use Rattle.premise.specs.Evaluation.{isStanding, contends, kept, givesWay, settled, displaced, dropped, overtaken, lapsed, due, told}
+use Rattle.premise.specs.Evaluation.{isScheduledOrCancelPending, contends, switchOfDay, givesWay, sameDaySwitch, isDisplaced}
+use Rattle.premise.specs.Evaluation.{dropOnSwitchDay, isOvertaken, permitOvertaken, isDue, lossNotice}
 use Rattle.premise.specs.WellKept.{dayFits, orderKept}
 use Rattle.premise_laws.proofs.Tests.{must, by-either}
 use Rattle.premise_laws.proofs.Sends.{Sends, few, sends-none, sends-one, sends-two, sends-either}
@@ -49,10 +50,13 @@ settling-most o =
 
 -- Scheduled and Permit Pending orders may send two
 two-left : (o : Order) → (hasStatus scheduled o || hasStatus permitPending o) ≡ true → atSettling o ≡ 2
-two-left o e = by-either (hasStatus scheduled o) (hasStatus permitPending o) e (λ h. rw (eqb-true (o .status) scheduled h)) (λ h. rw (eqb-true (o .status) permitPending h))
+two-left o e = by-either (hasStatus scheduled o) (hasStatus permitPending o) e (λ h. rw (eqb-true (o .status) scheduled h))
+    (λ h. rw (eqb-true (o .status) permitPending h))
 
 dropping-settling : (o : Order) → atDropping o ≤ atSettling o
-dropping-settling o = by-test (λ (n : ℕ). n ≤ atSettling o) (hasStatus scheduled o || hasStatus permitPending o) _ _ (λ e. omega (arith, two-left o e)) (λ e. omega arith)
+dropping-settling o =
+    by-test (λ (n : ℕ). n ≤ atSettling o) (hasStatus scheduled o || hasStatus permitPending o) _ _ (λ e. omega (arith, two-left o e))
+    (λ e. omega arith)
 
 telling-dropping : (o : Order) → atTelling o ≤ atDropping o
 telling-dropping o = by-test (λ (n : ℕ). n ≤ atDropping o) (hasStatus scheduled o) _ _ (λ e. rw e (omega arith)) (λ e. omega arith)
@@ -66,11 +70,13 @@ no-day o h e = eqb-true (o .scheduled) noDay (rw e at (must (dayFits o) (orderKe
 pending-few : (premise waited : ℕ) (o : Order) → o .scheduled ≡ noDay → Sends atSettling 2 (toCancelPending premise waited o)
 pending-few premise waited o e = record { fact = rw e (omega arith) }
 
-reviewed-few : (business : Bool) (today premise : ℕ) (o : Order) → o .scheduled ≡ noDay → Sends atSettling 2 (reviewed business today premise o)
+reviewed-few : (business : Bool) (today premise : ℕ) (o : Order) → o .scheduled ≡ noDay
+    → Sends atSettling 2 (reviewed business today premise o)
 unfolding reviewed
 reviewed-few business today premise o e = search (sends-either, sends-none, pending-few, settling-most)
 
-permit-few : (business : Bool) (today premise : ℕ) (o : Order) → o .scheduled ≡ noDay → Sends atSettling 2 (permitAwaited business today premise o)
+permit-few : (business : Bool) (today premise : ℕ) (o : Order) → o .scheduled ≡ noDay
+    → Sends atSettling 2 (permitAwaited business today premise o)
 unfolding permitAwaited
 permit-few business today premise o e = search (sends-either, sends-none, pending-few, settling-most)
 
@@ -78,7 +84,8 @@ cancel-few : (premise : ℕ) (o : Order) → Sends atSettling 2 (cancelAwaited p
 unfolding cancelAwaited
 cancel-few premise o = search (few, sends-either, sends-none, sends-two, settling-most)
 
-pub ticked-few : (business : Bool) (today premise : ℕ) (o : Order) → orderKept o ≡ true → Sends atSettling 2 (ticked business today premise o)
+pub ticked-few : (business : Bool) (today premise : ℕ) (o : Order) → orderKept o ≡ true
+    → Sends atSettling 2 (ticked business today premise o)
 unfolding ticked
 ticked-few business today premise o h =
     by-test (Sends atSettling 2) (hasStatus inReview o) _ _
@@ -99,43 +106,45 @@ window-days calendar width today day e = and-left (isDay day) (leb (businessDays
 way-two : (near : ℕ → Bool) → OnlyDays near → (os : List Order) (i : ℕ) (o : Order) → givesWay near os i o ≡ true → atSettling o ≡ 2
 unfolding givesWay contends
 way-two near only os i o h =
-    let e : contends near o ≡ true = and-left (contends near o) (not (isAt (kept near os (o .scheduled)) i)) h in
-    let day : isDay (o .scheduled) ≡ true = only (o .scheduled) (and-right (isSwitch o && isStanding o) (near (o .scheduled)) e) in
-    by-either (hasStatus scheduled o) (hasStatus cancelPending o) (must (isStanding o) (contends near o) (λ n. simp (n, and-false)) e)
+    let e : contends near o ≡ true = and-left (contends near o) (not (isAt (switchOfDay near os (o .scheduled)) i)) h in
+    let day : isDay (o .scheduled) ≡ true =
+    only (o .scheduled) (and-right (isSwitch o && isScheduledOrCancelPending o) (near (o .scheduled)) e) in
+    by-either (hasStatus scheduled o) (hasStatus cancelPending o)
+    (must (isScheduledOrCancelPending o) (contends near o) (λ n. simp (n, and-false)) e)
     (λ h. two-left o (rw h refl))
     (λ h. rw (eqb-true (o .status) cancelPending h, day))
 
-displaced-two : (near : ℕ → Bool) (os : List Order) (o : Order) → displaced near os o ≡ true → atDropping o ≡ 2
-unfolding displaced
+displaced-two : (near : ℕ → Bool) (os : List Order) (o : Order) → isDisplaced near os o ≡ true → atDropping o ≡ 2
+unfolding isDisplaced
 displaced-two near os o e =
-    let h : hasStatus scheduled o ≡ true = must (hasStatus scheduled o) (displaced near os o) (λ n. simp (n, and-false)) e in
+    let h : hasStatus scheduled o ≡ true = must (hasStatus scheduled o) (isDisplaced near os o) (λ n. simp (n, and-false)) e in
     rw h
 
-overtaken-two : (today : ℕ) (os : List Order) (o : Order) → overtaken today os o ≡ true → atDropping o ≡ 2
-unfolding overtaken
+overtaken-two : (today : ℕ) (os : List Order) (o : Order) → isOvertaken today os o ≡ true → atDropping o ≡ 2
+unfolding isOvertaken
 overtaken-two today os o e =
-    let h : hasStatus permitPending o ≡ true = must (hasStatus permitPending o) (overtaken today os o) (λ n. simp (n, and-false)) e in
+    let h : hasStatus permitPending o ≡ true = must (hasStatus permitPending o) (isOvertaken today os o) (λ n. simp (n, and-false)) e in
     rw (h, or-true)
 
-due-one : (near : ℕ → Bool) (o : Order) → due near o ≡ true → atTelling o ≡ 1
-unfolding due
+due-one : (near : ℕ → Bool) (o : Order) → isDue near o ≡ true → atTelling o ≡ 1
+unfolding isDue
 due-one near o e =
-    let h : hasStatus scheduled o ≡ true = must (hasStatus scheduled o) (due near o) (λ n. simp n) e in
+    let h : hasStatus scheduled o ≡ true = must (hasStatus scheduled o) (isDue near o) (λ n. simp n) e in
     rw h
 
 module _ (near : ℕ → Bool) (only : OnlyDays near) (today premise retailer : ℕ) (os : List Order) (i : ℕ) (o : Order) where
-  pub settled-few : Sends atDropping (atSettling o) (settled near premise os i o)
-  unfolding settled
-  settled-few = search (few, sends-either, sends-two, sends-none, way-two near only, dropping-settling)
+  pub same-day-few : Sends atDropping (atSettling o) (sameDaySwitch near premise os i o)
+  unfolding sameDaySwitch
+  same-day-few = search (few, sends-either, sends-two, sends-none, way-two near only, dropping-settling)
 
-  pub dropped-few : Sends atDropping (atDropping o) (dropped near premise retailer os o)
-  unfolding dropped
-  dropped-few = search (few, sends-either, sends-two, sends-none, displaced-two, le-refl) depth 6
+  pub drop-few : Sends atDropping (atDropping o) (dropOnSwitchDay near premise retailer os o)
+  unfolding dropOnSwitchDay
+  drop-few = search (few, sends-either, sends-two, sends-none, displaced-two, le-refl) depth 6
 
-  pub lapsed-few : Sends atTelling (atDropping o) (lapsed today premise os o)
-  unfolding lapsed
-  lapsed-few = search (few, sends-either, sends-two, sends-none, overtaken-two, telling-dropping)
+  pub overtaken-few : Sends atTelling (atDropping o) (permitOvertaken today premise os o)
+  unfolding permitOvertaken
+  overtaken-few = search (few, sends-either, sends-two, sends-none, overtaken-two, telling-dropping)
 
-  pub told-few : Sends done (atTelling o) (told near premise retailer o)
-  unfolding told
-  told-few = search (few, sends-either, sends-one, sends-none, due-one, zero-le)
+  pub loss-few : Sends done (atTelling o) (lossNotice near premise retailer o)
+  unfolding lossNotice
+  loss-few = search (few, sends-either, sends-one, sends-none, due-one, zero-le)

@@ -17,9 +17,11 @@ use Rattle.premise.specs.declared.Order.{Order}
 use Rattle.premise.specs.declared.File.{File}
 use Rattle.premise.specs.Orders.{mostOrders, held, withOrders}
 use Rattle.premise.specs.Passes.{Outcome, Effect}
-use Rattle.premise.specs.Steps.{is, makeRoom, newOrder, named, orderAt, supplied, ordered, changed, onOrder, onScheduled, onPermit, onUnexecutable, onRead, onCancel, onReply}
+use Rattle.premise.specs.Steps.{is, makeRoom, newOrder, named, orderAt, supplied, ordered, changed, onOrder, onScheduled, onPermit}
+use Rattle.premise.specs.Steps.{onUnexecutable, onRead, onCancel, onReply}
 use Rattle.premise.specs.Clock.{clock, ticked}
-use Rattle.premise.specs.Evaluation.{settle, settled, dropDrops, dropped, lapse, lapsed, tell, told, evaluation, evaluated}
+use Rattle.premise.specs.Evaluation.{sameDaySwitches, sameDaySwitch, dropsOnSwitchDays, dropOnSwitchDay, permitsOvertaken, permitOvertaken}
+use Rattle.premise.specs.Evaluation.{lossNotices, lossNotice, evaluation, evaluated}
 use Rattle.premise.specs.WellKept.{orderKept, FileKept}
 use Rattle.premise.specs.Refusals.{number, firstRow, rows}
 use Rattle.premise.specs.OnePremise.{Given, effectOn, atPlace, marked, stepped, step}
@@ -28,33 +30,44 @@ use Rattle.lists.proofs.TestLaws.{by-test}
 use Rattle.premise.proofs.KeptFiles.{held-with}
 use Rattle.premise_laws.proofs.Room.{held-most, accepted-room}
 use Rattle.premise_laws.proofs.Sends.{Sends, few, sends-two, sends-either, total, pass-few, each-few}
-use Rattle.premise_laws.proofs.Allowance.{OnlyDays, window-days, atMark, atSettling, atDropping, atTelling, done, settling-most, ticked-few, settled-few, dropped-few, lapsed-few, told-few}
+use Rattle.premise_laws.proofs.Allowance.{OnlyDays, window-days, atMark, atSettling, atDropping, atTelling, done, settling-most}
+use Rattle.premise_laws.proofs.Allowance.{ticked-few, same-day-few, drop-few, overtaken-few, loss-few}
 
 total-most : (most : Order → ℕ) → ((o : Order) → most o ≤ 2) → (os : List Order) → total most os ≤ 2 * length os
 total-most most h [] = omega arith
 total-most most h (o ∷ os) = omega (arith, h o, total-most most h os)
 
 -- ---- the evaluation
-evaluation-few : (near : ℕ → Bool) → OnlyDays near → (today premise retailer : ℕ) (os : List Order) → length (evaluation near today premise retailer os .notices) ≤ total atSettling os
+evaluation-few : (near : ℕ → Bool) → OnlyDays near → (today premise retailer : ℕ) (os : List Order)
+    → length (evaluation near today premise retailer os .notices) ≤ total atSettling os
 unfolding evaluation
 evaluation-few near only today premise retailer os =
-    let one : Outcome = settle near premise os in
-    let two : Outcome = dropDrops near premise retailer (one .orders) in
-    let three : Outcome = lapse today premise (two .orders) in
-    let four : Outcome = tell near premise retailer (three .orders) in
+    let one : Outcome = sameDaySwitches near premise os in
+    let two : Outcome = dropsOnSwitchDays near premise retailer (one .orders) in
+    let three : Outcome = permitsOvertaken today premise (two .orders) in
+    let four : Outcome = lossNotices near premise retailer (three .orders) in
     omega (
       arith,
-      each-few atSettling atDropping (settled near premise os) (settled-few near only today premise retailer os) 0 os,
-      each-few atDropping atDropping (λ (i : ℕ). dropped near premise retailer (one .orders)) (dropped-few near only today premise retailer (one .orders)) 0 (one .orders),
-      each-few atDropping atTelling (λ (i : ℕ). lapsed today premise (two .orders)) (lapsed-few near only today premise retailer (two .orders)) 0 (two .orders),
-      each-few atTelling done (λ (i : ℕ). told near premise retailer) (told-few near only today premise retailer (three .orders)) 0 (three .orders),
+      each-few atSettling atDropping (sameDaySwitch near premise os) (same-day-few near only today premise retailer os) 0 os,
+      each-few atDropping atDropping (λ (i : ℕ). dropOnSwitchDay near premise retailer (one .orders))
+          (drop-few near only today premise retailer (one .orders)) 0 (one .orders),
+      each-few atDropping atTelling (λ (i : ℕ). permitOvertaken today premise (two .orders))
+          (overtaken-few near only today premise retailer (two .orders)) 0 (two .orders),
+      each-few atTelling done (λ (i : ℕ). lossNotice near premise retailer) (loss-few near only today premise retailer (three .orders)) 0
+          (three .orders),
       length-append (one .notices) (two .notices),
       length-append (one .notices ++ two .notices) (three .notices),
       length-append ((one .notices ++ two .notices) ++ three .notices) (four .notices),
     )
 
 pub evaluated-few : (calendar : List ℕ) (today : ℕ) (f : File) → length (evaluated calendar today f .notices) ≤ 2 * length (held f)
-evaluated-few calendar today f = omega (arith, evaluation-few (inWindow calendar windowWidth today) (window-days calendar windowWidth today) today (f .premise) (f .retailer) (held f), total-most atSettling settling-most (held f))
+evaluated-few calendar today f =
+    omega (
+      arith,
+      evaluation-few (inWindow calendar windowWidth today) (window-days calendar windowWidth today) today (f .premise)
+          (f .retailer) (held f),
+      total-most atSettling settling-most (held f),
+    )
 
 pub mark-few : MarkFew
 unfolding marked
@@ -62,9 +75,11 @@ mark-few calendar today f k =
     let ticks : Outcome = clock calendar today (f .premise) (held f) in
     omega (
       arith,
-      pass-few orderKept atMark atSettling (λ (i : ℕ). ticked (isBusinessDay calendar today) today (f .premise)) (λ i. ticked-few (isBusinessDay calendar today) today (f .premise)) 0 (held f) (k .orders),
+      pass-few orderKept atMark atSettling (λ (i : ℕ). ticked (isBusinessDay calendar today) today (f .premise))
+          (λ i. ticked-few (isBusinessDay calendar today) today (f .premise)) 0 (held f) (k .orders),
       total-most atMark (λ o. omega arith) (held f),
-      evaluation-few (inWindow calendar windowWidth today) (window-days calendar windowWidth today) today (f .premise) (f .retailer) (held (withOrders f (ticks .orders))),
+      evaluation-few (inWindow calendar windowWidth today) (window-days calendar windowWidth today) today (f .premise) (f .retailer)
+          (held (withOrders f (ticks .orders))),
       ap (total atSettling) (held-with f (ticks .orders)),
       length-append (ticks .notices) (evaluated calendar today (withOrders f (ticks .orders)) .notices),
     )
@@ -90,7 +105,8 @@ place-few f r (At i) h =
     }
 place-few f r Nothing h = record { notices = omega arith; orders = held-most f h }
 
-new-few : (calendar : List ℕ) (today : ℕ) (f : File) (r : Record) → length (makeRoom (held f)) < mostOrders → Few (ordered calendar today f r)
+new-few : (calendar : List ℕ) (today : ℕ) (f : File) (r : Record) → length (makeRoom (held f)) < mostOrders
+    → Few (ordered calendar today f r)
 unfolding ordered
 new-few calendar today f r h =
     let os : List Order = makeRoom (held f) in
@@ -100,17 +116,28 @@ new-few calendar today f r h =
       orders = omega (arith, ap length (held-with f (os ++ new)), length-append os new);
     }
 
-stepped-few : (calendar : List ℕ) (today : ℕ) (f : File) (r : Record) → f .count ≤ mostOrders → (is kindNewOrder r ≡ true → length (makeRoom (held f)) < mostOrders)
+stepped-few : (calendar : List ℕ) (today : ℕ) (f : File) (r : Record) → f .count ≤ mostOrders
+    → (is kindNewOrder r ≡ true → length (makeRoom (held f)) < mostOrders)
     → length (stepped calendar today f r .notices) ≤ mostOfRecord
 unfolding stepped
 stepped-few calendar today f r h room =
     let first : Effect = cond (is kindNewOrder r) (ordered calendar today f r) (atPlace f r (named r (held f))) in
-    let few : Few first = by-test Few (is kindNewOrder r) _ _ (λ e. new-few calendar today f r (room e)) (λ e. place-few f r (named r (held f)) h) in
-    omega (arith, few .notices, few .orders, evaluated-few calendar today (first .file), length-append (first .notices) (evaluated calendar today (first .file) .notices))
+    let few : Few first =
+    by-test Few (is kindNewOrder r) _ _ (λ e. new-few calendar today f r (room e)) (λ e. place-few f r (named r (held f)) h) in
+    omega (
+      arith,
+      few .notices,
+      few .orders,
+      evaluated-few calendar today (first .file),
+      length-append (first .notices)
+          (evaluated calendar today (first .file) .notices),
+    )
 
-effect-few : (calendar : List ℕ) (today : ℕ) (file : Option File) (r : Record) → eqb (number (firstRow (rows calendar today file r))) 0 ≡ true → is kindDayMark r ≡ false → Held FileKept file
+effect-few : (calendar : List ℕ) (today : ℕ) (file : Option File) (r : Record)
+    → eqb (number (firstRow (rows calendar today file r))) 0 ≡ true → is kindDayMark r ≡ false → Held FileKept file
     → length (effectOn calendar today file r .notices) ≤ mostOfRecord
-effect-few calendar today none r e m k = by-test (λ (g : Given). length (g .notices) ≤ mostOfRecord) (is kindCreate r) _ _ (λ t. omega arith) (λ t. omega arith)
+effect-few calendar today none r e m k =
+    by-test (λ (g : Given). length (g .notices) ≤ mostOfRecord) (is kindCreate r) _ _ (λ t. omega arith) (λ t. omega arith)
 effect-few calendar today (some f) r e m k =
     let P : Given → Type 0 = (λ g. length (g .notices) ≤ mostOfRecord) in
     by-test P (is kindRetire r) _ _ (λ t. omega arith) (λ t.

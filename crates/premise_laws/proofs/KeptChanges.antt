@@ -9,10 +9,11 @@ use lib.Dec.{eqb, leb}
 use borrow.Author.Tests.{leb-true, le-leb}
 use Rattle.lists.proofs.TestLaws.{by-test}
 use Rattle.premise.specs.declared.Order.{Order}
-use Rattle.premise.specs.Orders.{inReview, permitPending, scheduled, cancelPending, cancelled, unexecutable, hasStatus, businessDays, calendarDays, withWaited, asCancelled}
+use Rattle.premise.specs.Orders.{inReview, permitPending, scheduled, cancelPending, cancelled, unexecutable, hasStatus, businessDays}
+use Rattle.premise.specs.Orders.{calendarDays, withWaited, asCancelled}
 use Rattle.premise.specs.Passes.{Change}
 use Rattle.premise.specs.Clock.{mostWaited, longReview, shortReview, mostPending, grown, reviewed, permitAwaited, cancelAwaited, ticked}
-use Rattle.premise.specs.Evaluation.{givesWay, settled, displaced, dropped, overtaken, lapsed, due, told}
+use Rattle.premise.specs.Evaluation.{givesWay, sameDaySwitch, isDisplaced, dropOnSwitchDay, isOvertaken, permitOvertaken, isDue, lossNotice}
 use Rattle.premise.specs.WellKept.{dayFits, permitFits, pendingFits}
 use Rattle.premise_laws.proofs.KeptOrders.{OrderKept, day-or-none}
 
@@ -26,17 +27,39 @@ LeavesBy o c = Leaves o (c .order)
 
 -- an order with its status and what goes by it set anew
 abbrev pub anew : Order → ℕ → ℕ → ℕ → ℕ → ℕ → Order
-anew o status day waited pending told =
-    record { reference = o .reference; kind = o .kind; retailer = o .retailer; requested = o .requested; scheduled = day; status = status; waited = businessDays waited; pending = calendarDays pending; told = told }
+anew o status day waited pending lossNotice =
+    record {
+      reference = o .reference;
+      kind = o .kind;
+      submitter = o .submitter;
+      requested = o .requested;
+      scheduled = day;
+      status = status;
+      waited = businessDays waited;
+      pending = calendarDays pending;
+      told = lossNotice;
+    }
 
-pub leaves : (o : Order) (status day waited pending told : ℕ) → OrderKept o
-    → (leb inReview status && leb status unexecutable) ≡ true → dayFits (anew o status day waited pending told) ≡ true
-    → permitFits (anew o status day waited pending told) ≡ true → leb waited mostWaited ≡ true
-    → pendingFits (anew o status day waited pending told) ≡ true → leb told 1 ≡ true → Leaves o (anew o status day waited pending told)
-leaves o status day waited pending told k s d p w c t =
+pub leaves : (o : Order) (status day waited pending lossNotice : ℕ) → OrderKept o
+    → (leb inReview status && leb status unexecutable) ≡ true → dayFits (anew o status day waited pending lossNotice) ≡ true
+    → permitFits (anew o status day waited pending lossNotice) ≡ true → leb waited mostWaited ≡ true
+    → pendingFits (anew o status day waited pending lossNotice) ≡ true → leb lossNotice 1 ≡ true
+    → Leaves o (anew o status day waited pending lossNotice)
+leaves o status day waited pending lossNotice k s d p w c t =
     record {
       reference = refl;
-      kept = record { reference = k .reference; kind = k .kind; retailer = k .retailer; requested = k .requested; status = s; scheduled = d; permit = p; waited = w; pending = c; told = t };
+      kept = record {
+        reference = k .reference;
+        kind = k .kind;
+        submitter = k .submitter;
+        requested = k .requested;
+        status = s;
+        scheduled = d;
+        permit = p;
+        waited = w;
+        pending = c;
+        told = t;
+      };
     }
 
 -- ---- changes that several rules share
@@ -47,7 +70,9 @@ module _ (o : Order) (k : OrderKept o) where
 
   -- with N grown, at most 21
   leaves-waited : (waited : ℕ) → waited ≤ mostWaited → Leaves o (withWaited waited o)
-  leaves-waited waited h = leaves o (o .status) (o .scheduled) waited (o .pending .0) (o .told) k (k .status) (k .scheduled) (k .permit) (le-leb waited mostWaited h) (k .pending) (k .told)
+  leaves-waited waited h =
+      leaves o (o .status) (o .scheduled) waited (o .pending .0) (o .told) k (k .status) (k .scheduled) (k .permit)
+      (le-leb waited mostWaited h) (k .pending) (k .told)
 
   -- Cancelled, W 0
   pub leaves-cancelled : Leaves o (asCancelled o)
@@ -55,7 +80,8 @@ module _ (o : Order) (k : OrderKept o) where
 
   -- Cancel Pending, W 0, with N grown
   pub leaves-cancelling : (waited : ℕ) → waited ≤ mostWaited → Leaves o (anew o cancelPending (o .scheduled) waited 0 (o .told))
-  leaves-cancelling waited h = leaves o cancelPending (o .scheduled) waited 0 (o .told) k refl (day-or-none o k) refl (le-leb waited mostWaited h) refl (k .told)
+  leaves-cancelling waited h =
+      leaves o cancelPending (o .scheduled) waited 0 (o .told) k refl (day-or-none o k) refl (le-leb waited mostWaited h) refl (k .told)
 
   pub waited-most : o .waited .0 ≤ mostWaited
   waited-most = leb-true (o .waited .0) mostWaited (k .waited)
@@ -86,7 +112,8 @@ module _ (business : Bool) (today premise : ℕ) (o : Order) (k : OrderKept o) w
   leaves-cancel-awaited e =
       by-test (LeavesBy o) (leb mostPending (o .pending .0 + 1)) _ _
       (λ q. leaves-cancelled o k)
-      (λ q. leaves o (o .status) (o .scheduled) (o .waited .0) (o .pending .0 + 1) (o .told) k (k .status) (k .scheduled) (k .permit) (k .waited) (rw (e, q)) (k .told))
+      (λ q. leaves o (o .status) (o .scheduled) (o .waited .0) (o .pending .0 + 1) (o .told) k (k .status) (k .scheduled) (k .permit)
+      (k .waited) (rw (e, q)) (k .told))
 
   pub leaves-ticked : Leaves o (ticked business today premise o .order)
   unfolding ticked
@@ -98,21 +125,22 @@ module _ (business : Bool) (today premise : ℕ) (o : Order) (k : OrderKept o) w
 
 -- ---- the four passes
 module _ (near : ℕ → Bool) (today premise retailer : ℕ) (os : List Order) (o : Order) (k : OrderKept o) where
-  pub leaves-settled : (i : ℕ) → Leaves o (settled near premise os i o .order)
-  unfolding settled
-  leaves-settled i = by-test (LeavesBy o) (givesWay near os i o) _ _ (λ q. leaves-cancelled o k) (λ q. leaves-same o k)
+  pub leaves-same-day : (i : ℕ) → Leaves o (sameDaySwitch near premise os i o .order)
+  unfolding sameDaySwitch
+  leaves-same-day i = by-test (LeavesBy o) (givesWay near os i o) _ _ (λ q. leaves-cancelled o k) (λ q. leaves-same o k)
 
-  pub leaves-dropped : Leaves o (dropped near premise retailer os o .order)
-  unfolding dropped
-  leaves-dropped = by-test (LeavesBy o) (displaced near os o) _ _ (λ q. leaves-cancelled o k) (λ q. leaves-same o k)
+  pub leaves-drop : Leaves o (dropOnSwitchDay near premise retailer os o .order)
+  unfolding dropOnSwitchDay
+  leaves-drop = by-test (LeavesBy o) (isDisplaced near os o) _ _ (λ q. leaves-cancelled o k) (λ q. leaves-same o k)
 
-  pub leaves-lapsed : Leaves o (lapsed today premise os o .order)
-  unfolding lapsed
-  leaves-lapsed = by-test (LeavesBy o) (overtaken today os o) _ _ (λ q. leaves-cancelled o k) (λ q. leaves-same o k)
+  pub leaves-overtaken : Leaves o (permitOvertaken today premise os o .order)
+  unfolding permitOvertaken
+  leaves-overtaken = by-test (LeavesBy o) (isOvertaken today os o) _ _ (λ q. leaves-cancelled o k) (λ q. leaves-same o k)
 
-  pub leaves-told : Leaves o (told near premise retailer o .order)
-  unfolding told
-  leaves-told =
-      by-test (LeavesBy o) (due near o) _ _
-      (λ q. leaves o (o .status) (o .scheduled) (o .waited .0) (o .pending .0) 1 k (k .status) (k .scheduled) (k .permit) (k .waited) (k .pending) refl)
+  pub leaves-loss : Leaves o (lossNotice near premise retailer o .order)
+  unfolding lossNotice
+  leaves-loss =
+      by-test (LeavesBy o) (isDue near o) _ _
+      (λ q. leaves o (o .status) (o .scheduled) (o .waited .0) (o .pending .0) 1 k (k .status) (k .scheduled) (k .permit) (k .waited)
+      (k .pending) refl)
       (λ q. leaves-same o k)

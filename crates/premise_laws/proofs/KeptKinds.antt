@@ -27,7 +27,8 @@ module _ (f : File) (r : Record) (o : Order) (k : OrderKept o) where
 
   pub leaves-unexecutable : Leaves o (onUnexecutable f r o .order)
   unfolding onUnexecutable
-  leaves-unexecutable = leaves o unexecutable (o .scheduled) (o .waited .0) 0 (o .told) k refl (day-or-none o k) refl (k .waited) refl (k .told)
+  leaves-unexecutable =
+      leaves o unexecutable (o .scheduled) (o .waited .0) 0 (o .told) k refl (day-or-none o k) refl (k .waited) refl (k .told)
 
   -- from Scheduled, where W is 0; or from Permit Pending, where SD is none too
   pub leaves-read : isDay (r .day) ≡ true → (hasStatus scheduled o || hasStatus permitPending o) ≡ true → Leaves o (onRead f r o .order)
@@ -35,13 +36,15 @@ module _ (f : File) (r : Record) (o : Order) (k : OrderKept o) where
   leaves-read d h = go (hasStatus scheduled o) (hasStatus permitPending o) refl refl h
     where
       go : (a b : Bool) → hasStatus scheduled o ≡ a → hasStatus permitPending o ≡ b → (a || b) ≡ true
-          → Leaves o (cond a (anew o complete (r .day) (o .waited .0) (o .pending .0) (o .told)) (anew o inReview (o .scheduled) (o .waited .0) (o .pending .0) (o .told)))
+          → Leaves o (cond a (anew o complete (r .day) (o .waited .0) (o .pending .0) (o .told))
+          (anew o inReview (o .scheduled) (o .waited .0) (o .pending .0) (o .told)))
       go true b e q t =
           let before = in-status scheduled o e k in
           leaves o complete (r .day) (o .waited .0) (o .pending .0) (o .told) k refl d refl (k .waited) (before .pending) (k .told)
       go false true e q t =
           let before = in-status permitPending o q k in
-          leaves o inReview (o .scheduled) (o .waited .0) (o .pending .0) (o .told) k refl (before .scheduled) refl (k .waited) (before .pending) (k .told)
+          leaves o inReview (o .scheduled) (o .waited .0) (o .pending .0) (o .told) k refl (before .scheduled) refl (k .waited)
+          (before .pending) (k .told)
       go false false e q t = absurd (false≢true t)
 
   pub leaves-cancel : Leaves o (onCancel f r o .order)
@@ -49,10 +52,13 @@ module _ (f : File) (r : Record) (o : Order) (k : OrderKept o) where
   leaves-cancel = leaves-cancelling o k (o .waited .0) (waited-most o k)
 
   -- rejected: Scheduled if SD is a day, else In Review, and then SD is none
-  leaves-rejected : (b : Bool) → isDay (o .scheduled) ≡ b → Leaves o (anew o (cond b scheduled inReview) (o .scheduled) (o .waited .0) 0 (o .told))
+  leaves-rejected : (b : Bool) → isDay (o .scheduled) ≡ b
+      → Leaves o (anew o (cond b scheduled inReview) (o .scheduled) (o .waited .0) 0 (o .told))
   leaves-rejected true e = leaves o scheduled (o .scheduled) (o .waited .0) 0 (o .told) k refl e refl (k .waited) refl (k .told)
-  leaves-rejected false e = leaves o inReview (o .scheduled) (o .waited .0) 0 (o .told) k refl (no-day o k e) refl (k .waited) refl (k .told)
+  leaves-rejected false e =
+      leaves o inReview (o .scheduled) (o .waited .0) 0 (o .told) k refl (no-day o k e) refl (k .waited) refl (k .told)
 
   pub leaves-reply : Leaves o (onReply f r o .order)
   unfolding onReply
-  leaves-reply = by-test (LeavesBy o) (eqb (r .detail) replyAccept) _ _ (λ q. leaves-cancelled o k) (λ q. leaves-rejected (isDay (o .scheduled)) refl)
+  leaves-reply = by-test (LeavesBy o) (eqb (r .detail) replyAccept) _ _ (λ q. leaves-cancelled o k)
+      (λ q. leaves-rejected (isDay (o .scheduled)) refl)

@@ -60,7 +60,8 @@ room-few os h e = by-test (λ (xs : List Order). length xs < mostOrders) (eqb (l
 switch-day : (calendar : List ℕ) (today : ℕ) → eqb (switchDate calendar today) noDay ≡ false → isDay (switchDate calendar today) ≡ true
 switch-day calendar today e = go (switch-date-is calendar today)
   where
-    go : FirstStart calendar today (switchDate calendar today) ⊎ NoStart calendar today (switchDate calendar today) → isDay (switchDate calendar today) ≡ true
+    go : FirstStart calendar today (switchDate calendar today) ⊎ NoStart calendar today (switchDate calendar today)
+        → isDay (switchDate calendar today) ≡ true
     go (inl s) = le-leb (switchDate calendar today) lastDay (s .day)
     go (inr s) = absurd (eqb-false (switchDate calendar today) noDay e (s .missing))
 
@@ -68,15 +69,18 @@ nothing-is : (found : Found) → isNothing found ≡ true → found ≡ Nothing
 nothing-is (At i) e = absurd (false≢true e)
 nothing-is Nothing e = refl
 
-module _ (calendar : List ℕ) (today : ℕ) (f : File) (r : Record) (w : wellFormed r ≡ true) (n : NoRow calendar today (some f) r) (e : is kindNewOrder r ≡ true) where
+module _ (calendar : List ℕ) (today : ℕ) (f : File) (r : Record) (w : wellFormed r ≡ true) (n : NoRow calendar today (some f) r)
+    (e : is kindNewOrder r ≡ true) where
   requested-day : isDay (requestedDay calendar today r) ≡ true
   unfolding requestedDay
   requested-day = go (eqb (r .detail) standardSwitch) refl (order-fits r w e .day)
     where
-      go : (b : Bool) → eqb (r .detail) standardSwitch ≡ b → cond b unused isDay (r .day) ≡ true → isDay (cond b (switchDate calendar today) (r .day)) ≡ true
+      go : (b : Bool) → eqb (r .detail) standardSwitch ≡ b → cond b unused isDay (r .day) ≡ true
+          → isDay (cond b (switchDate calendar today) (r .day)) ≡ true
       go true q d =
           switch-day calendar today
-          (and-other (is kindNewOrder r && eqb (r .detail) standardSwitch) (eqb (switchDate calendar today) noDay) (n .noSwitchDate) (ap₂ (λ (a b : Bool). a && b) e q))
+          (and-other (is kindNewOrder r && eqb (r .detail) standardSwitch) (eqb (switchDate calendar today) noDay) (n .noSwitchDate)
+          (ap₂ (λ (a b : Bool). a && b) e q))
       go false q d = d
 
   new-kept : OrderKept (newOrder calendar today r)
@@ -85,7 +89,7 @@ module _ (calendar : List ℕ) (today : ℕ) (f : File) (r : Record) (w : wellFo
       record {
         reference = fits .reference;
         kind = fits .detail;
-        retailer = fits .retailer;
+        submitter = fits .retailer;
         requested = requested-day;
         status = refl;
         scheduled = refl;
@@ -98,7 +102,9 @@ module _ (calendar : List ℕ) (today : ℕ) (f : File) (r : Record) (w : wellFo
   reference-free : anyOf (hasReference (r .reference)) (held f) ≡ false
   reference-free =
       none-found (hasReference (r .reference)) 0 (held f)
-      (nothing-is (named r (held f)) (not-false (isNothing (named r (held f))) (and-other (is kindNewOrder r) (not (isNothing (named r (held f)))) (n .referenceHeld) e)))
+      (nothing-is (named r (held f))
+      (not-false (isNothing (named r (held f)))
+      (and-other (is kindNewOrder r) (not (isNothing (named r (held f)))) (n .referenceHeld) e)))
 
   pub ordered-keeps : (premise : ℕ) → KeptFor premise f → KeptFor premise (ordered calendar today f r .file)
   unfolding ordered
@@ -108,8 +114,10 @@ module _ (calendar : List ℕ) (today : ℕ) (f : File) (r : Record) (w : wellFo
       let kept = orders-facts os (k .kept .orders) in
       let orders = room-by (Each OrderKept) os kept (each-without OrderKept isClosed os kept) in
       let apart = room-by (λ xs. distinct xs ≡ true) os (k .kept .references) (distinct-without isClosed os (k .kept .references)) in
-      let free = room-by (λ xs. anyOf (hasReference (r .reference)) xs ≡ false) os reference-free (any-without (hasReference (r .reference)) isClosed os reference-free) in
-      let few = room-few os (held-few f (k .kept .tidy)) (and-other (is kindNewOrder r) (eqb (countOf isOpen os) mostOrders) (n .stackFull) e) in
+      let free = room-by (λ xs. anyOf (hasReference (r .reference)) xs ≡ false) os reference-free
+      (any-without (hasReference (r .reference)) isClosed os reference-free) in
+      let few = room-few os (held-few f (k .kept .tidy))
+      (and-other (is kindNewOrder r) (eqb (countOf isOpen os) mostOrders) (n .stackFull) e) in
       kept-with premise f (makeRoom os ++ (new ∷ [])) (header-of premise f k)
       (omega (arith, length-append (makeRoom os) (new ∷ []), few))
       (each-append OrderKept (makeRoom os) (new ∷ []) orders (new-kept, tt))

@@ -21,7 +21,7 @@ use Rattle.premise.specs.WellKept.{orderKept, dayFits, permitFits, pendingFits}
 pub record OrderKept (o : Order) : Type 0 where
   pub reference : aReference (o .reference) ≡ true
   pub kind : anOrderKind (o .kind) ≡ true
-  pub retailer : aRetailer (o .retailer) ≡ true
+  pub submitter : aRetailer (o .submitter) ≡ true
   pub requested : isDay (o .requested) ≡ true
   pub status : (leb inReview (o .status) && leb (o .status) unexecutable) ≡ true
   pub scheduled : dayFits o ≡ true
@@ -34,7 +34,7 @@ pub record OrderKept (o : Order) : Type 0 where
 abbrev tests : Order → List Bool
 tests o =
     anOrderKind (o .kind)
-    ∷ aRetailer (o .retailer)
+    ∷ aRetailer (o .submitter)
     ∷ isDay (o .requested)
     ∷ (leb inReview (o .status) && leb (o .status) unexecutable)
     ∷ dayFits o
@@ -51,7 +51,7 @@ order-facts o h =
     record {
       reference = k .0;
       kind = k .1 .0;
-      retailer = k .1 .1 .0;
+      submitter = k .1 .1 .0;
       requested = k .1 .1 .1 .0;
       status = k .1 .1 .1 .1 .0;
       scheduled = k .1 .1 .1 .1 .1 .0;
@@ -64,8 +64,13 @@ order-facts o h =
 pub order-test : (o : Order) → OrderKept o → orderKept o ≡ true
 unfolding orderKept
 order-test o k =
-    each-pass (aReference (o .reference)) (tests o)
-    (k .reference, (k .kind, (k .retailer, (k .requested, (k .status, (k .scheduled, (k .permit, (k .waited, (k .pending, (k .told, tt))))))))))
+    each-pass (aReference (o .reference)) (tests o) (
+      k .reference,
+      (
+        k .kind,
+        (k .submitter, (k .requested, (k .status, (k .scheduled, (k .permit, (k .waited, (k .pending, (k .told, tt)))))))),
+      ),
+    )
 
 -- the same for a list of orders
 pub orders-facts : (os : List Order) → allOf orderKept os ≡ true → Each OrderKept os
@@ -82,11 +87,13 @@ in-status status o e k = subst (λ (s : ℕ). OrderKept (withStatus s o)) (eqb-t
 pub day-or-none : (o : Order) → OrderKept o → leb (o .scheduled) noDay ≡ true
 day-or-none o k = go (hasStatus inReview o || hasStatus permitPending o) (hasStatus scheduled o || hasStatus complete o) (k .scheduled)
   where
-    go : (a b : Bool) → cond a (eqb (o .scheduled) noDay) (cond b (isDay (o .scheduled)) (leb (o .scheduled) noDay)) ≡ true → leb (o .scheduled) noDay ≡ true
+    go : (a b : Bool) → cond a (eqb (o .scheduled) noDay) (cond b (isDay (o .scheduled)) (leb (o .scheduled) noDay)) ≡ true
+        → leb (o .scheduled) noDay ≡ true
     go true b e = le-leb (o .scheduled) noDay (omega (arith, eqb-true (o .scheduled) noDay e))
     go false true e = le-leb (o .scheduled) noDay (omega (arith, leb-true (o .scheduled) lastDay e))
     go false false e = e
 
 -- SD is none where it is no day
 pub no-day : (o : Order) → OrderKept o → isDay (o .scheduled) ≡ false → eqb (o .scheduled) noDay ≡ true
-no-day o k e = eq-eqb (o .scheduled) noDay (omega (arith, leb-true (o .scheduled) noDay (day-or-none o k), leb-false (o .scheduled) lastDay e))
+no-day o k e = eq-eqb (o .scheduled) noDay
+    (omega (arith, leb-true (o .scheduled) noDay (day-or-none o k), leb-false (o .scheduled) lastDay e))

@@ -15,12 +15,13 @@ use Rattle.premise.specs.declared.File.{File}
 use Rattle.premise.specs.Orders.{mostOrders, held, withOrders}
 use Rattle.premise.specs.Passes.{Change, Outcome, passFrom, andThen}
 use Rattle.premise.specs.Clock.{ticked, clock}
-use Rattle.premise.specs.Evaluation.{settled, settle, dropped, dropDrops, lapsed, lapse, told, tell, evaluation, evaluated}
+use Rattle.premise.specs.Evaluation.{sameDaySwitch, sameDaySwitches, dropOnSwitchDay, dropsOnSwitchDays, permitOvertaken, permitsOvertaken}
+use Rattle.premise.specs.Evaluation.{lossNotice, lossNotices, evaluation, evaluated}
 use Rattle.premise.specs.WellKept.{orderKept, distinct}
 use Rattle.premise.specs.OnePremise.{marked}
 use Rattle.premise_laws.specs.Laws.{KeptFor, MarkKeeps}
 use Rattle.premise_laws.proofs.KeptOrders.{OrderKept, orders-facts, orders-test}
-use Rattle.premise_laws.proofs.KeptChanges.{Leaves, leaves-ticked, leaves-settled, leaves-dropped, leaves-lapsed, leaves-told}
+use Rattle.premise_laws.proofs.KeptChanges.{Leaves, leaves-ticked, leaves-same-day, leaves-drop, leaves-overtaken, leaves-loss}
 use Rattle.premise.proofs.KeptFiles.{held-with, tidy-with, held-few}
 use Rattle.premise_laws.proofs.KeptReferences.{references, distinct-same}
 
@@ -48,9 +49,11 @@ pass-leaves step s i (o ∷ os) k =
       kept = (here .kept, rest .kept);
     }
 
-pub clock-leaves : (calendar : List ℕ) (today premise : ℕ) (os : List Order) → Each OrderKept os → LeavesAll os (clock calendar today premise os .orders)
+pub clock-leaves : (calendar : List ℕ) (today premise : ℕ) (os : List Order) → Each OrderKept os
+    → LeavesAll os (clock calendar today premise os .orders)
 clock-leaves calendar today premise os k =
-    pass-leaves (λ (i : ℕ). ticked (isBusinessDay calendar today) today premise) (λ i o h. leaves-ticked (isBusinessDay calendar today) today premise o h) 0 os k
+    pass-leaves (λ (i : ℕ). ticked (isBusinessDay calendar today) today premise)
+    (λ i o h. leaves-ticked (isBusinessDay calendar today) today premise o h) 0 os k
 
 -- one after another
 both-leave : (first : Outcome) (next : List Order → Outcome) (os : List Order) → LeavesAll os (first .orders)
@@ -58,27 +61,30 @@ both-leave : (first : Outcome) (next : List Order → Outcome) (os : List Order)
 both-leave first next os a n = leaves-then os (first .orders) (next (first .orders) .orders) a (n (first .orders) (a .kept))
 
 module _ (near : ℕ → Bool) (today premise retailer : ℕ) where
-  settle-leaves : (os : List Order) → Each OrderKept os → LeavesAll os (settle near premise os .orders)
-  settle-leaves os k = pass-leaves (settled near premise os) (λ i o h. leaves-settled near today premise retailer os o h i) 0 os k
+  same-day-leaves : (os : List Order) → Each OrderKept os → LeavesAll os (sameDaySwitches near premise os .orders)
+  same-day-leaves os k = pass-leaves (sameDaySwitch near premise os) (λ i o h. leaves-same-day near today premise retailer os o h i) 0 os k
 
-  drops-leave : (os : List Order) → Each OrderKept os → LeavesAll os (dropDrops near premise retailer os .orders)
-  drops-leave os k = pass-leaves (λ (i : ℕ). dropped near premise retailer os) (λ i o h. leaves-dropped near today premise retailer os o h) 0 os k
+  drops-leave : (os : List Order) → Each OrderKept os → LeavesAll os (dropsOnSwitchDays near premise retailer os .orders)
+  drops-leave os k = pass-leaves (λ (i : ℕ). dropOnSwitchDay near premise retailer os)
+      (λ i o h. leaves-drop near today premise retailer os o h) 0 os k
 
-  lapse-leaves : (os : List Order) → Each OrderKept os → LeavesAll os (lapse today premise os .orders)
-  lapse-leaves os k = pass-leaves (λ (i : ℕ). lapsed today premise os) (λ i o h. leaves-lapsed near today premise retailer os o h) 0 os k
+  permits-leave : (os : List Order) → Each OrderKept os → LeavesAll os (permitsOvertaken today premise os .orders)
+  permits-leave os k = pass-leaves (λ (i : ℕ). permitOvertaken today premise os) (λ i o h. leaves-overtaken near today premise retailer os o h)
+      0 os k
 
-  tell-leaves : (os : List Order) → Each OrderKept os → LeavesAll os (tell near premise retailer os .orders)
-  tell-leaves os k = pass-leaves (λ (i : ℕ). told near premise retailer) (λ i o h. leaves-told near today premise retailer os o h) 0 os k
+  losses-leave : (os : List Order) → Each OrderKept os → LeavesAll os (lossNotices near premise retailer os .orders)
+  losses-leave os k = pass-leaves (λ (i : ℕ). lossNotice near premise retailer) (λ i o h. leaves-loss near today premise retailer os o h) 0
+      os k
 
   pub evaluation-leaves : (os : List Order) → Each OrderKept os → LeavesAll os (evaluation near today premise retailer os .orders)
   unfolding evaluation
   evaluation-leaves os k =
-      let one = settle near premise os in
-      let two = andThen one (dropDrops near premise retailer) in
-      let three = andThen two (lapse today premise) in
-      let a = both-leave one (dropDrops near premise retailer) os (settle-leaves os k) drops-leave in
-      let b = both-leave two (lapse today premise) os a lapse-leaves in
-      both-leave three (tell near premise retailer) os b tell-leaves
+      let one = sameDaySwitches near premise os in
+      let two = andThen one (dropsOnSwitchDays near premise retailer) in
+      let three = andThen two (permitsOvertaken today premise) in
+      let a = both-leave one (dropsOnSwitchDays near premise retailer) os (same-day-leaves os k) drops-leave in
+      let b = both-leave two (permitsOvertaken today premise) os a permits-leave in
+      both-leave three (lossNotices near premise retailer) os b losses-leave
 
 -- ---- a file
 -- the file of a premise, R and S in range
@@ -92,7 +98,8 @@ pub header-of : (premise : ℕ) (f : File) → KeptFor premise f → HeaderKept 
 header-of premise f k = record { number = k .number; known = k .kept .premise; retailer = k .kept .retailer; since = k .kept .since }
 
 -- with other orders
-pub kept-with : (premise : ℕ) (f : File) (os : List Order) → HeaderKept premise f → length os ≤ mostOrders → Each OrderKept os → distinct os ≡ true
+pub kept-with : (premise : ℕ) (f : File) (os : List Order) → HeaderKept premise f → length os ≤ mostOrders → Each OrderKept os
+    → distinct os ≡ true
     → KeptFor premise (withOrders f os)
 kept-with premise f os h n k d =
     record {
@@ -108,19 +115,24 @@ kept-with premise f os h n k d =
     }
 
 -- with orders that have the references of those of a well-kept file; R and S may be others
-pub kept-after : (premise : ℕ) (f g : File) (os : List Order) → KeptFor premise f → HeaderKept premise g → LeavesAll (held f) os → KeptFor premise (withOrders g os)
+pub kept-after : (premise : ℕ) (f g : File) (os : List Order) → KeptFor premise f → HeaderKept premise g → LeavesAll (held f) os
+    → KeptFor premise (withOrders g os)
 kept-after premise f g os k h a =
     kept-with premise g os h (omega (arith, same-many (held f) os a, held-few f (k .kept .tidy))) (a .kept)
     (distinct-same (held f) os (a .references) (k .kept .references))
 
-pub evaluated-keeps : (calendar : List ℕ) (today : ℕ) (f : File) (premise : ℕ) → KeptFor premise f → KeptFor premise (evaluated calendar today f .file)
+pub evaluated-keeps : (calendar : List ℕ) (today : ℕ) (f : File) (premise : ℕ) → KeptFor premise f
+    → KeptFor premise (evaluated calendar today f .file)
 evaluated-keeps calendar today f premise k =
-    kept-after premise f f (evaluation (inWindow calendar windowWidth today) today (f .premise) (f .retailer) (held f) .orders) k (header-of premise f k)
-    (evaluation-leaves (inWindow calendar windowWidth today) today (f .premise) (f .retailer) (held f) (orders-facts (held f) (k .kept .orders)))
+    kept-after premise f f (evaluation (inWindow calendar windowWidth today) today (f .premise) (f .retailer) (held f) .orders) k
+    (header-of premise f k)
+    (evaluation-leaves (inWindow calendar windowWidth today) today (f .premise) (f .retailer) (held f)
+    (orders-facts (held f) (k .kept .orders)))
 
 pub mark-keeps : MarkKeeps
 unfolding marked
 mark-keeps calendar today f premise k =
     let after = clock calendar today (f .premise) (held f) .orders in
     evaluated-keeps calendar today (withOrders f after) premise
-    (kept-after premise f f after k (header-of premise f k) (clock-leaves calendar today (f .premise) (held f) (orders-facts (held f) (k .kept .orders))))
+    (kept-after premise f f after k (header-of premise f k)
+    (clock-leaves calendar today (f .premise) (held f) (orders-facts (held f) (k .kept .orders))))

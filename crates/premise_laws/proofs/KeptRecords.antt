@@ -11,13 +11,15 @@ use Rattle.lists.specs.Search.{anyOf, countOf, Each}
 use Rattle.lists.proofs.TestLaws.{pass-each}
 use Rattle.days.specs.Days.{noDay, isDay, switchDate}
 use Rattle.records.specs.declared.Record.{Record}
-use Rattle.records.specs.Records.{kindCreate, kindRetire, kindNewOrder, kindScheduled, kindRead, kindCancel, kindDayMark, standardSwitch, aReference, aPremise, aRetailer, aRetailerOrNone, anOrderKind, orderDay, unused, wellFormed}
+use Rattle.records.specs.Records.{kindCreate, kindRetire, kindNewOrder, kindScheduled, kindRead, kindCancel, kindDayMark, standardSwitch}
+use Rattle.records.specs.Records.{aReference, aPremise, aRetailer, aRetailerOrNone, anOrderKind, orderDay, unused, wellFormed}
 use Rattle.records.proofs.ByKind.{formed-at}
 use Rattle.premise.specs.declared.File.{File}
 use Rattle.premise.specs.Orders.{mostOrders, isOpen}
 use Rattle.premise.specs.Steps.{is, requestedDay, named, orderAt, taken}
 use Rattle.premise.specs.FirstIn.{notFirstIn}
-use Rattle.premise.specs.Refusals.{Row, number, firstRow, premiseRows, orderRows, rows, isHeld, ordersOf, isNothing, needsPremise, namesOrder, limited, outOfRange}
+use Rattle.premise.specs.Refusals.{Row, number, firstRow, premiseRows, orderRows, rows, isHeld, ordersOf, isNothing, needsPremise}
+use Rattle.premise.specs.Refusals.{namesOrder, limited, outOfRange}
 
 -- ---- a well-formed record of a kind
 -- what its fields hold, each by its test
@@ -32,7 +34,8 @@ fields : (details days references premises retailers : ℕ → Bool) (r : Record
     → (details (r .detail) && days (r .day) && references (r .reference) && premises (r .premise) && retailers (r .retailer)) ≡ true
     → Fits details days references premises retailers r
 fields details days references premises retailers r h =
-    let k = pass-each (details (r .detail)) (days (r .day) ∷ references (r .reference) ∷ premises (r .premise) ∷ retailers (r .retailer) ∷ []) h in
+    let k = pass-each (details (r .detail))
+    (days (r .day) ∷ references (r .reference) ∷ premises (r .premise) ∷ retailers (r .retailer) ∷ []) h in
     record { detail = k .0; day = k .1 .0; reference = k .1 .1 .0; premise = k .1 .1 .1 .0; retailer = k .1 .1 .1 .1 .0 }
 
 module _ (r : Record) (w : wellFormed r ≡ true) where
@@ -40,10 +43,12 @@ module _ (r : Record) (w : wellFormed r ≡ true) where
   create-fits e = fields unused isDay unused aPremise aRetailerOrNone r (sym (formed-at kindCreate r (eqb-true (r .kind) kindCreate e)) ∙ w)
 
   pub order-fits : is kindNewOrder r ≡ true → Fits anOrderKind (orderDay (r .detail)) aReference aPremise aRetailer r
-  order-fits e = fields anOrderKind (orderDay (r .detail)) aReference aPremise aRetailer r (sym (formed-at kindNewOrder r (eqb-true (r .kind) kindNewOrder e)) ∙ w)
+  order-fits e = fields anOrderKind (orderDay (r .detail)) aReference aPremise aRetailer r
+      (sym (formed-at kindNewOrder r (eqb-true (r .kind) kindNewOrder e)) ∙ w)
 
   pub scheduled-fits : is kindScheduled r ≡ true → Fits unused isDay aReference aPremise unused r
-  scheduled-fits e = fields unused isDay aReference aPremise unused r (sym (formed-at kindScheduled r (eqb-true (r .kind) kindScheduled e)) ∙ w)
+  scheduled-fits e = fields unused isDay aReference aPremise unused r
+      (sym (formed-at kindScheduled r (eqb-true (r .kind) kindScheduled e)) ∙ w)
 
   pub read-fits : is kindRead r ≡ true → Fits unused isDay aReference aPremise unused r
   read-fits e = fields unused isDay aReference aPremise unused r (sym (formed-at kindRead r (eqb-true (r .kind) kindRead e)) ∙ w)
@@ -74,14 +79,18 @@ pub record NoRow (calendar : List ℕ) (today : ℕ) (file : Option File) (r : R
   pub noSwitchDate : (is kindNewOrder r && eqb (r .detail) standardSwitch && eqb (switchDate calendar today) noDay) ≡ false
   pub notFirst : (is kindNewOrder r && notFirstIn (r .detail) (requestedDay calendar today r) (ordersOf file)) ≡ false
   pub stackFull : (is kindNewOrder r && eqb (countOf isOpen (ordersOf file)) mostOrders) ≡ false
-  pub noSuchOrder : (namesOrder r && (isNothing (named r (ordersOf file)) || is kindCancel r && not (eqb (r .retailer) (orderAt (ordersOf file) (named r (ordersOf file)) .retailer)))) ≡ false
+  pub noSuchOrder : (namesOrder r
+      && (isNothing (named r (ordersOf file)) || is kindCancel r
+      && not (eqb (r .retailer) (orderAt (ordersOf file) (named r (ordersOf file)) .submitter)))) ≡ false
   pub statusNotTaken : (namesOrder r && not (taken r (orderAt (ordersOf file) (named r (ordersOf file))))) ≡ false
   pub notNextDay : (is kindDayMark r && not (eqb (r .day) (today + 1))) ≡ false
 
-pub no-row : (calendar : List ℕ) (today : ℕ) (file : Option File) (r : Record) → eqb (number (firstRow (rows calendar today file r))) 0 ≡ true → NoRow calendar today file r
+pub no-row : (calendar : List ℕ) (today : ℕ) (file : Option File) (r : Record)
+    → eqb (number (firstRow (rows calendar today file r))) 0 ≡ true → NoRow calendar today file r
 unfolding premiseRows orderRows number
 no-row calendar today file r h =
-    let k = none-held (rows calendar today file r) (refl, (refl, (refl, (refl, (refl, (refl, (refl, (refl, (refl, (refl, (refl, tt))))))))))) h in
+    let k = none-held (rows calendar today file r)
+    (refl, (refl, (refl, (refl, (refl, (refl, (refl, (refl, (refl, (refl, (refl, tt))))))))))) h in
     record {
       noSuchPremise = k .0;
       premiseHeld = k .1 .0;

@@ -48,7 +48,8 @@ distinct-without q (o ∷ os) h =
     by-test (λ (xs : List Order). distinct xs ≡ true) (q o) os (o ∷ withoutFirst q os) (λ e. rest)
     (λ e. ap₂ (λ (a b : Bool). not a && b) (any-without (hasReference (o .reference)) q os (first-alone o os h)) others)
 
-pub distinct-more : (os : List Order) (new : Order) → distinct os ≡ true → anyOf (hasReference (new .reference)) os ≡ false → distinct (os ++ (new ∷ [])) ≡ true
+pub distinct-more : (os : List Order) (new : Order) → distinct os ≡ true → anyOf (hasReference (new .reference)) os ≡ false
+    → distinct (os ++ (new ∷ [])) ≡ true
 distinct-more [] new h k = refl
 distinct-more (o ∷ os) new h k =
     let others = or-right (hasReference (new .reference) o) (anyOf (hasReference (new .reference)) os) k in

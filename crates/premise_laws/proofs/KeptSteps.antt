@@ -33,7 +33,8 @@ module _ (calendar : List ℕ) (today : ℕ) (r : Record) (premise : ℕ) (w : w
   unfolding places
   new-file-kept e p =
       let fits = create-fits r w e in
-      kept-with premise (newFile r) [] (record { number = p; known = fits .premise; retailer = fits .retailer; since = fits .day }) (omega arith) tt refl
+      kept-with premise (newFile r) [] (record { number = p; known = fits .premise; retailer = fits .retailer; since = fits .day })
+      (omega arith) tt refl
 
   -- kinds 3 to 9
   stepped-keeps : (f : File) → NoRow calendar today (some f) r → KeptFor premise f → KeptFor premise (stepped calendar today f r .file)
@@ -48,7 +49,8 @@ module _ (calendar : List ℕ) (today : ℕ) (r : Record) (premise : ℕ) (w : w
   create-premise : (is kindDayMark r ≡ false → r .premise ≡ premise) → is kindCreate r ≡ true → r .premise ≡ premise
   create-premise p e = p (ap (λ (kind : ℕ). eqb kind kindDayMark) (eqb-true (r .kind) kindCreate e))
 
-  effect-keeps : (file : Option File) → (is kindDayMark r ≡ false → r .premise ≡ premise) → NoRow calendar today file r → Held (KeptFor premise) file
+  effect-keeps : (file : Option File) → (is kindDayMark r ≡ false → r .premise ≡ premise) → NoRow calendar today file r
+      → Held (KeptFor premise) file
       → Keeps premise (effectOn calendar today file r)
   effect-keeps none p n k = by-test (Keeps premise) (is kindCreate r) _ _ (λ e. new-file-kept e (create-premise p e)) (λ e. tt)
   effect-keeps (some f) p n k =

@@ -15,9 +15,11 @@ use Rattle.premise.specs.declared.Order.{Order}
 use Rattle.premise.specs.declared.File.{File}
 use Rattle.premise.specs.Orders.{held}
 use Rattle.premise.specs.Passes.{Outcome, Effect, andThen, onFile}
-use Rattle.premise.specs.Steps.{is, named, supplied, ordered, changed, onOrder, onScheduled, onPermit, onUnexecutable, onRead, onCancel, onReply}
+use Rattle.premise.specs.Steps.{is, named, supplied, ordered, changed, onOrder, onScheduled, onPermit, onUnexecutable, onRead, onCancel}
+use Rattle.premise.specs.Steps.{onReply}
 use Rattle.premise.specs.Clock.{clock, ticked, reviewed, permitAwaited, cancelAwaited}
-use Rattle.premise.specs.Evaluation.{settle, settled, dropDrops, dropped, lapse, lapsed, tell, told, evaluation, evaluated}
+use Rattle.premise.specs.Evaluation.{sameDaySwitches, sameDaySwitch, dropsOnSwitchDays, dropOnSwitchDay, permitsOvertaken, permitOvertaken}
+use Rattle.premise.specs.Evaluation.{lossNotices, lossNotice, evaluation, evaluated}
 use Rattle.premise.specs.Refusals.{firstRow, rows}
 use Rattle.premise.specs.OnePremise.{Given, effectOn, atPlace, marked, stepped, step}
 use Rattle.premise_laws.specs.Laws.{Held, Of, StepNotices, MarkNotices}
@@ -32,41 +34,44 @@ module _ (premise : ℕ) where
   ticked-of business today o = search speaking depth 10
 
   module _ (near : ℕ → Bool) (today retailer : ℕ) (os : List Order) (i : ℕ) (o : Order) where
-    settled-of : Speaks premise (settled near premise os i o)
-    unfolding settled
-    settled-of = search speaking
+    same-day-of : Speaks premise (sameDaySwitch near premise os i o)
+    unfolding sameDaySwitch
+    same-day-of = search speaking
 
-    dropped-of : Speaks premise (dropped near premise retailer os o)
-    unfolding dropped
-    dropped-of = search speaking depth 8
+    drop-of : Speaks premise (dropOnSwitchDay near premise retailer os o)
+    unfolding dropOnSwitchDay
+    drop-of = search speaking depth 8
 
-    lapsed-of : Speaks premise (lapsed today premise os o)
-    unfolding lapsed
-    lapsed-of = search speaking
+    permit-of : Speaks premise (permitOvertaken today premise os o)
+    unfolding permitOvertaken
+    permit-of = search speaking
 
-    told-of : Speaks premise (told near premise retailer o)
-    unfolding told
-    told-of = search speaking
+    loss-of : Speaks premise (lossNotice near premise retailer o)
+    unfolding lossNotice
+    loss-of = search speaking
 
-  evaluation-of : (near : ℕ → Bool) (today retailer : ℕ) (os : List Order) → Each (Of premise) (evaluation near today premise retailer os .notices)
+  evaluation-of : (near : ℕ → Bool) (today retailer : ℕ) (os : List Order)
+      → Each (Of premise) (evaluation near today premise retailer os .notices)
   unfolding evaluation
   evaluation-of near today retailer os =
-      let one : Outcome = settle near premise os in
-      let two : Outcome = andThen one (dropDrops near premise retailer) in
-      let three : Outcome = andThen two (lapse today premise) in
-      each-then (Of premise) three (tell near premise retailer)
-      (each-then (Of premise) two (lapse today premise)
-      (each-then (Of premise) one (dropDrops near premise retailer)
-      (each-pass (Of premise) (settled near premise os) (λ i o. settled-of near today retailer os i o .all) 0 os)
-      (λ os. each-pass (Of premise) (λ (i : ℕ). dropped near premise retailer os) (λ i o. dropped-of near today retailer os i o .all) 0 os))
-      (λ os. each-pass (Of premise) (λ (i : ℕ). lapsed today premise os) (λ i o. lapsed-of near today retailer os i o .all) 0 os))
-      (λ os. each-pass (Of premise) (λ (i : ℕ). told near premise retailer) (λ i o. told-of near today retailer os i o .all) 0 os)
+      let one : Outcome = sameDaySwitches near premise os in
+      let two : Outcome = andThen one (dropsOnSwitchDays near premise retailer) in
+      let three : Outcome = andThen two (permitsOvertaken today premise) in
+      each-then (Of premise) three (lossNotices near premise retailer)
+      (each-then (Of premise) two (permitsOvertaken today premise)
+      (each-then (Of premise) one (dropsOnSwitchDays near premise retailer)
+      (each-pass (Of premise) (sameDaySwitch near premise os) (λ i o. same-day-of near today retailer os i o .all) 0 os)
+      (λ os. each-pass (Of premise) (λ (i : ℕ). dropOnSwitchDay near premise retailer os)
+      (λ i o. drop-of near today retailer os i o .all) 0 os))
+      (λ os. each-pass (Of premise) (λ (i : ℕ). permitOvertaken today premise os) (λ i o. permit-of near today retailer os i o .all) 0 os))
+      (λ os. each-pass (Of premise) (λ (i : ℕ). lossNotice near premise retailer) (λ i o. loss-of near today retailer os i o .all) 0 os)
 
 pub mark-notices : MarkNotices
 unfolding marked
 mark-notices calendar today f =
     each-followed (Of (f .premise)) (onFile f (clock calendar today (f .premise) (held f))) (evaluated calendar today)
-    (each-pass (Of (f .premise)) (λ (i : ℕ). ticked (isBusinessDay calendar today) today (f .premise)) (λ i o. ticked-of (f .premise) (isBusinessDay calendar today) today o .all) 0 (held f))
+    (each-pass (Of (f .premise)) (λ (i : ℕ). ticked (isBusinessDay calendar today) today (f .premise))
+    (λ i o. ticked-of (f .premise) (isBusinessDay calendar today) today o .all) 0 (held f))
     (evaluation-of (f .premise) (inWindow calendar windowWidth today) today (f .retailer) _)
 
 -- ---- a record's own steps
@@ -100,8 +105,11 @@ new-of : (calendar : List ℕ) (today : ℕ) (f : File) (r : Record) → Stays (
 unfolding ordered
 new-of calendar today f r = record { file = refl; notices = (refl, tt) }
 
-evaluated-of : (calendar : List ℕ) (today premise : ℕ) (f : File) → f .premise ≡ premise → Each (Of premise) (evaluated calendar today f .notices)
-evaluated-of calendar today premise f e = of-same (evaluated calendar today f .notices) e (evaluation-of (f .premise) (inWindow calendar windowWidth today) today (f .retailer) (held f))
+evaluated-of : (calendar : List ℕ) (today premise : ℕ) (f : File) → f .premise ≡ premise
+    → Each (Of premise) (evaluated calendar today f .notices)
+evaluated-of calendar today premise f e =
+    of-same (evaluated calendar today f .notices) e
+    (evaluation-of (f .premise) (inWindow calendar windowWidth today) today (f .retailer) (held f))
 
 stepped-of : (calendar : List ℕ) (today : ℕ) (f : File) (r : Record) → Each (Of (f .premise)) (stepped calendar today f r .notices)
 unfolding stepped
@@ -109,11 +117,13 @@ stepped-of calendar today f r =
     let first : Effect = cond (is kindNewOrder r) (ordered calendar today f r) (atPlace f r (named r (held f))) in
     let stays : Stays (f .premise) first =
     by-test (Stays (f .premise)) (is kindNewOrder r) _ _ (λ e. new-of calendar today f r) (λ e. place-of f r (named r (held f))) in
-    each-followed (Of (f .premise)) first (evaluated calendar today) (stays .notices) (evaluated-of calendar today (f .premise) (first .file) (stays .file))
+    each-followed (Of (f .premise)) first (evaluated calendar today) (stays .notices)
+    (evaluated-of calendar today (f .premise) (first .file) (stays .file))
 
 effect-of : (calendar : List ℕ) (today : ℕ) (file : Option File) (r : Record) (premise : ℕ) → Held (λ f. f .premise ≡ premise) file
     → Each (Of premise) (effectOn calendar today file r .notices)
-effect-of calendar today none r premise h = by-test (λ (g : Given). Each (Of premise) (g .notices)) (is kindCreate r) _ _ (λ e. tt) (λ e. tt)
+effect-of calendar today none r premise h =
+    by-test (λ (g : Given). Each (Of premise) (g .notices)) (is kindCreate r) _ _ (λ e. tt) (λ e. tt)
 effect-of calendar today (some f) r premise h =
     let P : Given → Type 0 = (λ g. Each (Of premise) (g .notices)) in
     by-test P (is kindRetire r) _ _ (λ e. tt) (λ e.
@@ -123,4 +133,5 @@ effect-of calendar today (some f) r premise h =
 pub step-notices : StepNotices
 unfolding step
 step-notices calendar s r premise h =
-    either (λ g. Each (Of premise) (g .notices)) (firstRow (rows calendar (s .today) (s .file) r)) s (effect-of calendar (s .today) (s .file) r premise h) tt
+    either (λ g. Each (Of premise) (g .notices)) (firstRow (rows calendar (s .today) (s .file) r)) s
+    (effect-of calendar (s .today) (s .file) r premise h) tt

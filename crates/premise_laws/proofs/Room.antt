@@ -21,7 +21,8 @@ use Rattle.premise_laws.proofs.KeptRecords.{no-row}
 pub held-most : (f : File) → f .count ≤ mostOrders → length (held f) ≤ mostOrders
 held-most f h = omega (arith, length-take (f .count) (f .orders))
 
-pub accepted-room : (calendar : List ℕ) (today : ℕ) (f : File) (r : Record) → f .count ≤ mostOrders → eqb (number (firstRow (rows calendar today (some f) r))) 0 ≡ true → is kindNewOrder r ≡ true
+pub accepted-room : (calendar : List ℕ) (today : ℕ) (f : File) (r : Record) → f .count ≤ mostOrders
+    → eqb (number (firstRow (rows calendar today (some f) r))) 0 ≡ true → is kindNewOrder r ≡ true
     → length (makeRoom (held f)) < mostOrders
 accepted-room calendar today f r h e new =
     room-few (held f) (held-most f h)

@@ -13,14 +13,17 @@ use Rattle.premise_laws.specs.Laws.{Of}
 use Rattle.lists.proofs.SearchLaws.{each-append}
 
 module _ (P : Notice → Type 0) where
-  pub each-pass : (g : ℕ → Order → Change) → ((i : ℕ) (o : Order) → Each P (g i o .notices)) → (i : ℕ) (os : List Order) → Each P (passFrom g i os .notices)
+  pub each-pass : (g : ℕ → Order → Change) → ((i : ℕ) (o : Order) → Each P (g i o .notices)) → (i : ℕ) (os : List Order)
+      → Each P (passFrom g i os .notices)
   each-pass g h i [] = tt
   each-pass g h i (o ∷ os) = each-append P (g i o .notices) (passFrom g (suc i) os .notices) (h i o) (each-pass g h (suc i) os)
 
-  pub each-then : (first : Outcome) (next : List Order → Outcome) → Each P (first .notices) → ((os : List Order) → Each P (next os .notices)) → Each P (andThen first next .notices)
+  pub each-then : (first : Outcome) (next : List Order → Outcome) → Each P (first .notices)
+      → ((os : List Order) → Each P (next os .notices)) → Each P (andThen first next .notices)
   each-then first next h k = each-append P (first .notices) (next (first .orders) .notices) h (k (first .orders))
 
-  pub each-followed : (first : Effect) (next : File → Effect) → Each P (first .notices) → Each P (next (first .file) .notices) → Each P (followed first next .notices)
+  pub each-followed : (first : Effect) (next : File → Effect) → Each P (first .notices) → Each P (next (first .file) .notices)
+      → Each P (followed first next .notices)
   each-followed first next h k = each-append P (first .notices) (next (first .file) .notices) h k
 
 -- ---- of a premise

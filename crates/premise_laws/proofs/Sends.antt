@@ -44,10 +44,12 @@ module _ {still : Order → ℕ} {most : ℕ} where
   pub sends-none : {o : Order} → still o ≤ most → Sends still most (record { order = o; notices = [] })
   sends-none h = record { fact = omega arith }
 
-  pub sends-one : {o : Order} {ns : List Notice} → AtMost 1 ns → still o ≡ 0 → most ≡ 1 → Sends still most (record { order = o; notices = ns })
+  pub sends-one : {o : Order} {ns : List Notice} → AtMost 1 ns → still o ≡ 0 → most ≡ 1
+      → Sends still most (record { order = o; notices = ns })
   sends-one h e m = record { fact = omega (arith, h .fact) }
 
-  pub sends-two : {o : Order} {ns : List Notice} → AtMost 2 ns → still o ≡ 0 → most ≡ 2 → Sends still most (record { order = o; notices = ns })
+  pub sends-two : {o : Order} {ns : List Notice} → AtMost 2 ns → still o ≡ 0 → most ≡ 2
+      → Sends still most (record { order = o; notices = ns })
   sends-two h e m = record { fact = omega (arith, h .fact) }
 
   pub sends-either : (b : Bool) {x y : Change} → (b ≡ true → Sends still most x) → Sends still most y → Sends still most (cond b x y)
@@ -55,8 +57,10 @@ module _ {still : Order → ℕ} {most : ℕ} where
   sends-either false h k = k
 
 -- A pass whose step stays within what each order may send, where the orders pass a test, stays within the sum.
-pub pass-few : (fine : Order → Bool) (most still : Order → ℕ) (g : ℕ → Order → Change) → ((i : ℕ) (o : Order) → fine o ≡ true → Sends still (most o) (g i o))
-    → (i : ℕ) (os : List Order) → allOf fine os ≡ true → length (passFrom g i os .notices) + total still (passFrom g i os .orders) ≤ total most os
+pub pass-few : (fine : Order → Bool) (most still : Order → ℕ) (g : ℕ → Order → Change)
+    → ((i : ℕ) (o : Order) → fine o ≡ true → Sends still (most o) (g i o))
+    → (i : ℕ) (os : List Order) → allOf fine os ≡ true
+    → length (passFrom g i os .notices) + total still (passFrom g i os .orders) ≤ total most os
 pass-few fine most still g h i [] e = omega arith
 pass-few fine most still g h i (o ∷ os) e =
     omega (

@@ -1,5 +1,5 @@
--- What the layer above relies on about the steps of one premise, as statements; proofs/ proves each: every step leaves a well-kept file, tells
--- of that premise alone, and gives few notices.
+-- What the layer above relies on about the steps of one premise, as statements; proofs/ proves each: every step leaves a well-kept file,
+-- tells of that premise alone, and gives few notices.
 use Prim.Native.Nat.{ℕ, _+_, _*_, _≤_}
 use mathlib.Core.Path.{_≡_}
 use mathlib.Core.List.{List}
@@ -45,7 +45,8 @@ Of premise n = n .premise ≡ premise
 -- every notice carries the premise's number
 abbrev pub StepNotices : Type 0
 StepNotices =
-    (calendar : List ℕ) (s : State) (r : Record) (premise : ℕ) → Held (λ f. f .premise ≡ premise) (s .file) → Each (Of premise) (step calendar s r .notices)
+    (calendar : List ℕ) (s : State) (r : Record) (premise : ℕ) → Held (λ f. f .premise ≡ premise) (s .file)
+    → Each (Of premise) (step calendar s r .notices)
 
 abbrev pub MarkNotices : Type 0
 MarkNotices = (calendar : List ℕ) (today : ℕ) (f : File) → Each (Of (f .premise)) (marked calendar today f .notices)

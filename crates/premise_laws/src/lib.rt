@@ -1,2 +1,3 @@
-// The premise layer: the laws of its steps that the book relies on, apart from the rules, so that an edit of a rule does not wait for them.
-// Every step leaves a well-kept file, gives notices of its own premise alone, and few of them.
+// The laws of the premise layer that the crates above its rules cite. It has no code. Of its steps: every step leaves a well-kept file,
+// gives notices of its own premise alone, and few of them; which orders the clock and the evaluation change, and which files a day mark
+// leaves (specs/Changes.antt). Of notices: written one lot after another, by a pass, by one thing done after another.

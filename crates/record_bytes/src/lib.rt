@@ -1,48 +1,15 @@
-// The premise layer: what the 24 bytes of a record or a notice say. Its face: `read_record` and `read_notice`. Document 01, "Records".
-ghost use mathlib.Core.Path.{_≡_};
-ghost use Prim.Native.Nat.{_≤_};
-ghost use lib.ListN.{length};
-ghost use Rattle.records.specs.Layout.{recordLength};
-ghost use Rattle.records.specs.Records.{reading};
-ghost use Rattle.records.specs.Notices.{decode};
-use record_fields::fields_of;
-use record_fields::zero_field_of;
-use record_kinds::well_formed;
-use records::Notice;
-use records::RECORD_LENGTH;
-use records::Reading;
+// The 24-byte layout of records and notices in code (document 01, "Records"): what the bytes of a record or a notice say, a notice written,
+// and numbers in bytes. What the bytes mean stands in `records`.
+mod fields;
+mod notice;
+mod numbers;
+mod reading;
+mod well_formed;
 
-// What the bytes of a record say, by the bytes alone. Every length and every byte is answered.
-pub fn read_record(bytes: &[u8]) -> Reading
-    ensures { λ r. ⌜ r ≡ reading (now (bytes .entry)) ⌝ }
-{
-    if bytes.len() != RECORD_LENGTH {
-        return Reading::Malformed;
-    }
-    if zero_field_of(bytes) != 0 {
-        return Reading::Malformed;
-    }
-    let record = fields_of(bytes);
-    if well_formed(record) {
-        Reading::Says(record)
-    } else {
-        Reading::Malformed
-    }
-}
-
-// The notice in the first 24 bytes; those behind them are not looked at. It has the record's layout, so its fields are a record's by
-// other names.
-pub fn read_notice(bytes: &[u8]) -> Notice
-    requires { ⌜ recordLength ≤ length (now bytes) ⌝ }
-    ensures { λ r. ⌜ r ≡ decode (now (bytes .entry)) ⌝ }
-{
-    let fields = fields_of(&bytes[..RECORD_LENGTH]);
-    Notice {
-        code: fields.kind,
-        kind: fields.detail,
-        day: fields.day,
-        reference: fields.reference,
-        premise: fields.premise,
-        addressee: fields.retailer,
-    }
-}
+pub use notice::write_notice;
+pub use numbers::eight;
+pub use numbers::four;
+pub use numbers::two;
+pub use numbers::wide;
+pub use reading::read_notice;
+pub use reading::read_record;

@@ -22,7 +22,8 @@ formed-at kind r e = formed-is r ∙ ap (λ (k : ℕ). getD (holdsByKind r) k fa
 
 pub formed-undated : (r : Record) → kindPermit ≤ r .kind → r .kind ≤ kindUnexecutable → wellFormed r ≡ undatedHolds r
 formed-undated r h l =
-    every-at (λ (k : ℕ). r .kind ≡ k → wellFormed r ≡ undatedHolds r) kindPermit 2 (formed-at kindPermit r, (formed-at kindUnexecutable r, tt)) (r .kind) h (omega arith) refl
+    every-at (λ (k : ℕ). r .kind ≡ k → wellFormed r ≡ undatedHolds r) kindPermit 2
+    (formed-at kindPermit r, (formed-at kindUnexecutable r, tt)) (r .kind) h (omega arith) refl
 
 -- there is no kind past the last
 pub formed-past : (r : Record) → kindDayMark < r .kind → wellFormed r ≡ false

@@ -5,18 +5,21 @@ use mathlib.Core.List.{List, [], _∷_}
 use native.Mathlib.Omega.{arith}
 use lib.ListN.{take, drop}
 use lib.Seq.{take-take}
-use Rattle.records.specs.Layout.{Field, Bytes, kindField, detailField, dayField, referenceField, premiseField, retailerField, number, fieldOf}
+use Rattle.records.specs.Layout.{Field, Bytes, kindField, detailField, dayField, referenceField, premiseField, retailerField, number}
+use Rattle.records.specs.Layout.{fieldOf}
 use Rattle.records.specs.Notices.{decode, FitsFields}
 use Rattle.records.proofs.Fields.{field-below}
 
-take-drop-take : (start width n : ℕ) (bytes : List ℕ) → start + width ≤ n → take width (drop start (take n bytes)) ≡ take width (drop start bytes)
+take-drop-take : (start width n : ℕ) (bytes : List ℕ) → start + width ≤ n
+    → take width (drop start (take n bytes)) ≡ take width (drop start bytes)
 take-drop-take zero width n bytes h = take-take width n bytes (omega arith)
 take-drop-take (suc start) width zero bytes h = absurd (omega arith)
 take-drop-take (suc start) width (suc n) [] h = refl
 take-drop-take (suc start) width (suc n) (b ∷ bytes) h = take-drop-take start width n bytes (omega arith)
 
 -- The bytes behind a field do not matter to it.
-pub field-of-first : (field : Field) (n : ℕ) (bytes : List ℕ) → field .start + field .width ≤ n → fieldOf field (take n bytes) ≡ fieldOf field bytes
+pub field-of-first : (field : Field) (n : ℕ) (bytes : List ℕ) → field .start + field .width ≤ n
+    → fieldOf field (take n bytes) ≡ fieldOf field bytes
 unfolding fieldOf
 field-of-first field n bytes h = ap number (take-drop-take (field .start) (field .width) n bytes h)
 

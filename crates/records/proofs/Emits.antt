@@ -14,7 +14,13 @@ rows-back : (ns : List Notice) (rest : List ℕ) → rows (length ns) (encodeAll
 rows-back [] rest = refl
 rows-back (n ∷ ns) rest =
     let long = length-encode n in
-    rw (append-assoc (encode n) (encodeAll ns) rest, take-at (encode n) (encodeAll ns ++ rest) recordLength long, drop-at (encode n) (encodeAll ns ++ rest) recordLength long, rows-back ns rest)
+    rw (
+      append-assoc (encode n) (encodeAll ns) rest,
+      take-at (encode n) (encodeAll ns ++ rest) recordLength long,
+      drop-at (encode n)
+          (encodeAll ns ++ rest) recordLength long,
+      rows-back ns rest,
+    )
 
 -- the same notices by another name
 pub emits-as : {before after : List ℕ} {n : ℕ} {xs ys : List Notice} → xs ≡ ys → Emits before after n xs → Emits before after n ys
@@ -29,7 +35,8 @@ module _ {before after : List ℕ} {n : ℕ} {xs : List Notice} (s : Emits befor
   pub emits-rest : drop (recordLength * n) after ≡ drop (recordLength * n) before
   emits-rest =
       let all : recordLength * n ≡ recordLength * length xs = ap (λ (k : ℕ). recordLength * k) (s .count) in
-      ap₂ drop all (s .bytes) ∙ drop-at (encodeAll xs) _ (recordLength * length xs) (length-encodeAll xs) ∙ sym (ap (λ (k : ℕ). drop k before) all)
+      ap₂ drop all (s .bytes) ∙ drop-at (encodeAll xs) _ (recordLength * length xs) (length-encodeAll xs)
+      ∙ sym (ap (λ (k : ℕ). drop k before) all)
 
   -- Where there was room, the buffer keeps its length.
   pub emits-length : recordLength * length xs ≤ length before → length after ≡ length before

@@ -9,7 +9,8 @@ use borrow.Author.Tests.{eqb-true, eqb-false, leb-true, leb-false, not-true}
 use Rattle.lists.proofs.TestLaws.{and-left, and-right, pass-each}
 use Rattle.days.specs.Days.{lastDay, isDay}
 use Rattle.records.specs.declared.Record.{Record}
-use Rattle.records.specs.Records.{kindDayMark, standardSwitch, massTransitionDrop, replyReject, lastRetailer, unused, aReference, aPremise, aRetailer, aRetailerOrNone, anOrderKind, aReply, orderDay, wellFormed}
+use Rattle.records.specs.Records.{kindDayMark, standardSwitch, massTransitionDrop, replyReject, lastRetailer, unused, aReference}
+use Rattle.records.specs.Records.{aPremise, aRetailer, aRetailerOrNone, anOrderKind, aReply, orderDay, wellFormed}
 use Rattle.records.specs.Kinds.{holds, datedHolds, undatedHolds, holdsByKind}
 use Rattle.records.specs.Laws.{Unused, ADay, Given, ARetailerOrNone, FieldsOfKind, fieldsByKind, Fields, UpTo, OrderDay, Formed}
 use Rattle.records.proofs.ByNumber.{_also_, every-at, Means, means-at}
@@ -49,7 +50,8 @@ are-fields : {Detail Day Reference Premise Retailer : ℕ → Type 0} (detail da
     → holds detail day reference premise retailer r ≡ true
     → Fields Detail Day Reference Premise Retailer r
 are-fields detail day reference premise retailer r d y f p q h =
-    let k = pass-each (detail (r .detail)) (day (r .day) ∷ reference (r .reference) ∷ premise (r .premise) ∷ retailer (r .retailer) ∷ []) h in
+    let k = pass-each (detail (r .detail)) (day (r .day) ∷ reference (r .reference) ∷ premise (r .premise) ∷ retailer (r .retailer) ∷ [])
+    h in
     record {
       detail = d (r .detail) (k .0);
       day = y (r .day) (k .1 .0);
@@ -69,7 +71,8 @@ by-kind r =
     false≢true
     also are-fields unused isDay unused aPremise aRetailerOrNone r is-unused is-day is-unused is-given is-at-most
     also are-fields unused unused unused aPremise unused r is-unused is-unused is-unused is-given is-unused
-    also are-fields anOrderKind (orderDay (r .detail)) aReference aPremise aRetailer r (is-up-to massTransitionDrop) (is-order-day (r .detail)) is-given is-given (is-up-to lastRetailer)
+    also are-fields anOrderKind (orderDay (r .detail)) aReference aPremise aRetailer r (is-up-to massTransitionDrop)
+    (is-order-day (r .detail)) is-given is-given (is-up-to lastRetailer)
     also dated r
     also undated r
     also undated r

@@ -1,8 +1,8 @@
-pub mod Fields
-pub mod Notices
-pub mod Emits
-pub mod ByNumber
 pub mod ByKind
-pub mod Formed
-pub mod Readings
+pub mod ByNumber
 pub mod Decode
+pub mod Emits
+pub mod Fields
+pub mod Formed
+pub mod Notices
+pub mod Readings

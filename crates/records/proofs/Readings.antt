@@ -8,7 +8,8 @@ use lib.ListN.{length}
 use borrow.Author.Tests.{eq-eqb, ne-eqb, eqb-true}
 use Rattle.records.specs.declared.Record.{Record}
 use Rattle.records.specs.declared.Reading.the-variants.{Malformed, Says}
-use Rattle.records.specs.Layout.{Bytes, recordLength, kindField, detailField, dayField, referenceField, premiseField, retailerField, zeroField, fieldOf}
+use Rattle.records.specs.Layout.{Bytes, recordLength, kindField, detailField, dayField, referenceField, premiseField, retailerField}
+use Rattle.records.specs.Layout.{zeroField, fieldOf}
 use Rattle.records.specs.Records.{wellFormed, fieldsOf, reading}
 use Rattle.records.specs.Laws.{InWidth, Said, SaidIn}
 use Rattle.records.proofs.Fields.{field-below}
@@ -26,7 +27,8 @@ module _ (bytes : List ℕ) where
   unfolding reading
   reading-unformed h = simp (h, and-false)
 
-  pub reading-says : length bytes ≡ recordLength → fieldOf zeroField bytes ≡ 0 → wellFormed (fieldsOf bytes) ≡ true → reading bytes ≡ Says (fieldsOf bytes)
+  pub reading-says : length bytes ≡ recordLength → fieldOf zeroField bytes ≡ 0 → wellFormed (fieldsOf bytes) ≡ true
+      → reading bytes ≡ Says (fieldsOf bytes)
   unfolding reading
   reading-says l z w = simp (eq-eqb (length bytes) recordLength l, eq-eqb (fieldOf zeroField bytes) 0 z, w)
 
@@ -35,7 +37,8 @@ pub reading-said : (bytes : List ℕ) → SaidIn bytes (reading bytes)
 unfolding reading
 reading-said bytes = go (eqb (length bytes) recordLength) refl (eqb (fieldOf zeroField bytes) 0) refl (wellFormed (fieldsOf bytes)) refl
   where
-    go : (a : Bool) → eqb (length bytes) recordLength ≡ a → (b : Bool) → eqb (fieldOf zeroField bytes) 0 ≡ b → (c : Bool) → wellFormed (fieldsOf bytes) ≡ c
+    go : (a : Bool) → eqb (length bytes) recordLength ≡ a → (b : Bool) → eqb (fieldOf zeroField bytes) 0 ≡ b → (c : Bool)
+        → wellFormed (fieldsOf bytes) ≡ c
         → SaidIn bytes (cond (a && b && c) (Says (fieldsOf bytes)) Malformed)
     go true e true f true w =
         record { long = eqb-true (length bytes) recordLength e; zeros = eqb-true (fieldOf zeroField bytes) 0 f; fields = refl; formed = w }

@@ -8,7 +8,8 @@ use Rattle.records.specs.Records.{unused, aReference, aPremise, aRetaile
 
 -- what the fields beside the kind may hold
 abbrev pub holds : (ℕ → Bool) → (ℕ → Bool) → (ℕ → Bool) → (ℕ → Bool) → (ℕ → Bool) → Record → Bool
-holds detail day reference premise retailer r = detail (r .detail) && day (r .day) && reference (r .reference) && premise (r .premise) && retailer (r .retailer)
+holds detail day reference premise retailer r =
+    detail (r .detail) && day (r .day) && reference (r .reference) && premise (r .premise) && retailer (r .retailer)
 
 abbrev pub createHolds : Record → Bool
 createHolds = holds unused isDay unused aPremise aRetailerOrNone

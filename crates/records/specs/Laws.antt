@@ -8,8 +8,10 @@ use Rattle.days.specs.Days.{lastDay}
 use Rattle.records.specs.declared.Record.{Record}
 use Rattle.records.specs.declared.Reading.{Reading}
 use Rattle.records.specs.declared.Reading.the-variants.{Malformed, Says}
-use Rattle.records.specs.Layout.{GoesInto, recordLength, kindField, detailField, dayField, referenceField, premiseField, retailerField, zeroField, fieldOf}
-use Rattle.records.specs.Records.{kindNewOrder, kindDayMark, standardSwitch, massTransitionDrop, replyReject, lastRetailer, wellFormed, fieldsOf}
+use Rattle.records.specs.Layout.{GoesInto, recordLength, kindField, detailField, dayField, referenceField, premiseField}
+use Rattle.records.specs.Layout.{retailerField, zeroField, fieldOf}
+use Rattle.records.specs.Records.{kindNewOrder, kindDayMark, standardSwitch, massTransitionDrop, replyReject, lastRetailer}
+use Rattle.records.specs.Records.{wellFormed, fieldsOf}
 
 -- What a field holds, as facts; specs/Records.antt has the tests.
 abbrev pub Unused : ℕ → Type 0

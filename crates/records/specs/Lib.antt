@@ -1,5 +1,5 @@
-pub mod Layout
-pub mod Records
 pub mod Kinds
-pub mod Notices
 pub mod Laws
+pub mod Layout
+pub mod Notices
+pub mod Records

@@ -4,7 +4,8 @@ use mathlib.Core.Path.{_≡_}
 use mathlib.Core.List.{List, [], _∷_, _++_}
 use lib.ListN.{length, take, drop}
 use Rattle.records.specs.declared.Notice.{Notice}
-use Rattle.records.specs.Layout.{GoesInto, recordLength, kindField, detailField, dayField, referenceField, premiseField, retailerField, zeroField, bytesOf, fieldOf}
+use Rattle.records.specs.Layout.{GoesInto, recordLength, kindField, detailField, dayField, referenceField, premiseField}
+use Rattle.records.specs.Layout.{retailerField, zeroField, bytesOf, fieldOf}
 
 -- The addressee 0 is the TDSP, the wires company.
 abbrev pub tdsp : ℕ

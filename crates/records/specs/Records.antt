@@ -8,7 +8,8 @@ use Rattle.days.specs.Days.{isDay}
 use Rattle.records.specs.declared.Record.{Record}
 use Rattle.records.specs.declared.Reading.{Reading}
 use Rattle.records.specs.declared.Reading.the-variants.{Malformed, Says}
-use Rattle.records.specs.Layout.{recordLength, kindField, detailField, dayField, referenceField, premiseField, retailerField, zeroField, fieldOf}
+use Rattle.records.specs.Layout.{recordLength, kindField, detailField, dayField, referenceField, premiseField, retailerField}
+use Rattle.records.specs.Layout.{zeroField, fieldOf}
 
 -- The record kinds, 1 to 10.
 abbrev pub kindCreate : ℕ
@@ -127,4 +128,5 @@ fieldsOf bytes =
 
 -- Row 3, decided by a record's bytes alone: length not 24, kind, detail or field out of range, unused field not zero.
 unfoldable pub reading : List ℕ → Reading
-reading bytes = cond (eqb (length bytes) recordLength && eqb (fieldOf zeroField bytes) 0 && wellFormed (fieldsOf bytes)) (Says (fieldsOf bytes)) Malformed
+reading bytes = cond (eqb (length bytes) recordLength && eqb (fieldOf zeroField bytes) 0 && wellFormed (fieldsOf bytes))
+    (Says (fieldsOf bytes)) Malformed

@@ -1,5 +1,5 @@
-// The premise layer: records and notices. Here stand their types and numbers; what their bytes say stands in specs/, from document
-// 01, "Records", with its laws in proofs/. The code stands in the crates `record_*` and in `notice_bytes`.
+// Records and notices. Here stand their types and numbers; what their bytes say stands in specs/, from document 01, "Records", with its
+// laws in proofs/. The code stands in `record_bytes`.
 
 // The first byte of each field.
 pub mod field_at;

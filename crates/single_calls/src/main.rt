@@ -1,11 +1,15 @@
 // Makes single record calls on books handed in as bytes, damaged ones too, and prints what comes back, so that the proved call can be
 // compared with the second program call by call. The layout of the bytes and of the lines stands at the top of the second program's
 // callcheck.rs (reference/stacking/src/bin).
+mod book_bytes;
+mod input;
+mod lines;
+
+use crate::book_bytes::BOOK_BYTES;
+use crate::input::complain;
+use crate::input::take_length;
+use crate::input::take_part;
 use book::Book;
-use call_bytes::BOOK_BYTES;
-use call_input::complain;
-use call_input::take_length;
-use call_input::take_part;
 
 // The longest calendar, record and notice buffer that are taken.
 const LONGEST_CALENDAR: usize = 8_192;
@@ -31,12 +35,12 @@ fn make(place: u64, b: Book, calendar: &[u8], bytes: &[u8], buffer: &mut [u8]) {
     fill(buffer);
     let reply = book_calls::record_call(calendar, b, bytes, buffer);
     let answer = reply.answer;
-    let number = premise_answers::number_of(answer);
-    call_lines::say(b'c', &[place, number as u64, reply.sent as u64]);
-    call_lines::say_notices(buffer, reply.sent);
-    call_lines::say_changed(buffer, reply.sent, PATTERN);
+    let number = premise_rows::number_of(answer);
+    crate::lines::say(b'c', &[place, number as u64, reply.sent as u64]);
+    crate::lines::say_notices(buffer, reply.sent);
+    crate::lines::say_changed(buffer, reply.sent, PATTERN);
     let c = reply.book;
-    call_lines::say_book(c);
+    crate::lines::say_book(c);
 }
 
 // Reads the rest of a call on a book, makes it and prints its lines; whether another may follow.
@@ -50,7 +54,7 @@ fn play_on(place: u64, b: Book, calendar: &mut [u8], bytes: &mut [u8], buffer: &
         return false;
     }
     let room = take_length();
-    if room == call_input::NO_LENGTH {
+    if room == crate::input::NO_LENGTH {
         return false;
     }
     if buffer.len() < room {
@@ -75,7 +79,7 @@ fn play_by(
     bytes: &mut [u8],
     buffer: &mut [u8],
 ) -> bool {
-    let got = tape_input::read_up_to(libc::STDIN_FILENO, book);
+    let got = tape_io::read_up_to(libc::STDIN_FILENO, book);
     if got.failed {
         complain(b"standard input can't be read");
         return false;
@@ -87,7 +91,7 @@ fn play_by(
         complain(b"the calls break off");
         return false;
     }
-    let b = call_bytes::book_from(book);
+    let b = crate::book_bytes::book_from(book);
     play_on(place, b, calendar, bytes, buffer)
 }
 

@@ -2,7 +2,7 @@
 // tape's text stands a line with the tape's file name. `tapes/store` writes its data/, args and stdout, the latter with the second program.
 ghost use Prim.Native.Nat.{_≤_};
 ghost use lib.ListN.{length};
-use tape_input::Got;
+use tape_io::Got;
 
 // Says on standard error which file can't be read.
 fn complain(path: &[u8]) {
@@ -19,7 +19,7 @@ fn read_named(i: usize, buffer: &mut [u8]) -> Got
 {
     let mut path = io::buffer();
     let n = os::arg(i, &mut path);
-    let got = tape_input::read_file(&path[0..n], buffer);
+    let got = tape_io::read_file(&path[0..n], buffer);
     if got.failed {
         complain(&path[0..n]);
     }

@@ -9,7 +9,7 @@ fn complain(what: &[u8], advice: &[u8]) {
 
 fn main() {
     let mut calendar = [0u8; tape_io::CALENDAR_BYTES];
-    let days = tape_input::read_file(b"calendar.bin", &mut calendar);
+    let days = tape_io::read_file(b"calendar.bin", &mut calendar);
     if days.failed {
         complain(
             b"tape: cannot read calendar.bin in the current folder",
@@ -18,7 +18,7 @@ fn main() {
         return;
     }
     let mut tape = [0u8; tape_io::TAPE_BYTES];
-    let read = tape_input::read_up_to(libc::STDIN_FILENO, &mut tape);
+    let read = tape_io::read_up_to(libc::STDIN_FILENO, &mut tape);
     if read.failed {
         complain(
             b"tape: cannot read the tape from standard input",

@@ -22,7 +22,8 @@ records-none : (most : ℕ) → recordsOf most [] ≡ []
 records-none zero = refl
 records-none (suc most) = refl
 
-records-next : (most : ℕ) (tape : List ℕ) → 0 < most → 0 < length tape → recordsOf most tape ≡ take recordLength tape ∷ recordsOf (most - 1) (drop recordLength tape)
+records-next : (most : ℕ) (tape : List ℕ) → 0 < most → 0 < length tape
+    → recordsOf most tape ≡ take recordLength tape ∷ recordsOf (most - 1) (drop recordLength tape)
 records-next zero tape h k = absurd (omega arith)
 records-next (suc most) [] h k = absurd (omega arith)
 records-next (suc most) (byte ∷ tape) h k =
@@ -44,16 +45,19 @@ records-first (suc most) (byte ∷ tape) bytes others e =
 -- ---- those that a reader has not played
 -- one record on
 on : (place next : ℕ) (tape : List ℕ) → next ≡ place + 1
-    → recordsOf (mostRecords - place - 1) (drop recordLength (drop (recordLength * place) tape)) ≡ recordsOf (mostRecords - next) (drop (recordLength * next) tape)
+    → recordsOf (mostRecords - place - 1) (drop recordLength (drop (recordLength * place) tape))
+    ≡ recordsOf (mostRecords - next) (drop (recordLength * next) tape)
 on place next tape e =
     let most : mostRecords - place - 1 ≡ mostRecords - next = omega arith in
     let from : recordLength * place + recordLength ≡ recordLength * next = omega arith in
     ap₂ recordsOf most (drop-drop recordLength (recordLength * place) tape ∙ ap (λ (m : ℕ). drop m tape) from)
 
 pub left-none : (p : Playing) (tape : List ℕ) → length tape ≤ recordLength * p .reader .place → left p tape ≡ []
-left-none p tape h = ap (recordsOf (mostRecords - p .reader .place)) (drop-none tape (recordLength * p .reader .place) h) ∙ records-none (mostRecords - p .reader .place)
+left-none p tape h = ap (recordsOf (mostRecords - p .reader .place)) (drop-none tape (recordLength * p .reader .place) h)
+    ∙ records-none (mostRecords - p .reader .place)
 
-pub left-next : (p q : Playing) (tape : List ℕ) → q .reader .place ≡ p .reader .place + 1 → p .reader .place < mostRecords → recordLength * p .reader .place < length tape
+pub left-next : (p q : Playing) (tape : List ℕ) → q .reader .place ≡ p .reader .place + 1 → p .reader .place < mostRecords
+    → recordLength * p .reader .place < length tape
     → left p tape ≡ take recordLength (drop (recordLength * p .reader .place) tape) ∷ left q tape
 left-next p q tape e h k =
     let from = recordLength * p .reader .place in
@@ -64,7 +68,8 @@ pub record LeftFirst (p q : Playing) (tape : List ℕ) (others : List (List ℕ)
   pub some : p .reader .place < mostRecords
   pub rest : others ≡ left q tape
 
-pub left-first : (p q : Playing) (tape bytes : List ℕ) (others : List (List ℕ)) → q .reader .place ≡ p .reader .place + 1 → bytes ∷ others ≡ left p tape → LeftFirst p q tape others
+pub left-first : (p q : Playing) (tape bytes : List ℕ) (others : List (List ℕ)) → q .reader .place ≡ p .reader .place + 1
+    → bytes ∷ others ≡ left p tape → LeftFirst p q tape others
 left-first p q tape bytes others e is =
     let f = records-first (mostRecords - p .reader .place) (drop (recordLength * p .reader .place) tape) bytes others is in
     record { some = omega (arith, f .some); rest = f .rest ∙ on (p .reader .place) (q .reader .place) tape e }
@@ -77,5 +82,6 @@ take-within zero (suc n) (x ∷ l) e = absurd (omega arith)
 take-within (suc m) zero (x ∷ l) e = absurd (omega arith)
 take-within {X} (suc m) (suc n) (x ∷ l) e = ap (λ (k : List X). x ∷ k) (take-within m n l (omega arith))
 
-pub lent-record : (tape : List ℕ) (from to : ℕ) → to ≡ min (from + recordLength) (length tape) → take (to - from) (drop from tape) ≡ take recordLength (drop from tape)
+pub lent-record : (tape : List ℕ) (from to : ℕ) → to ≡ min (from + recordLength) (length tape)
+    → take (to - from) (drop from tape) ≡ take recordLength (drop from tape)
 lent-record tape from to e = take-within (to - from) recordLength (drop from tape) (omega (arith, length-drop from tape))

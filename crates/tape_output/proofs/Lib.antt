@@ -1,4 +1,5 @@
 pub mod Calls
-pub mod Lines
 pub mod Left
+pub mod LineLengths
+pub mod Lines
 pub mod Stretches

@@ -15,14 +15,16 @@ use Rattle.records.proofs.Fields.{bytes-drop}
 use Rattle.records.proofs.Notices.{encode-bytes}
 use Rattle.premise.specs.declared.File.{File}
 use Rattle.premise.specs.declared.Answer.{Answer}
-use Rattle.premise.specs.declared.Answer.the-variants.{Accepted, ShortBuffer, NotWellKept, MalformedRecord, NoSuchPremise, PremiseHeld, BookFull, OrderOpen, ReferenceHeld, DayOutOfRange, NoSwitchDate, NotFirstIn, StackFull, NoSuchOrder, StatusNotTaken, NotNextDay}
+use Rattle.premise.specs.declared.Answer.the-variants.{Accepted, ShortBuffer, NotWellKept, MalformedRecord, NoSuchPremise, PremiseHeld}
+use Rattle.premise.specs.declared.Answer.the-variants.{BookFull, OrderOpen, ReferenceHeld, DayOutOfRange, NoSwitchDate, NotFirstIn}
+use Rattle.premise.specs.declared.Answer.the-variants.{StackFull, NoSuchOrder, StatusNotTaken, NotNextDay}
 use Rattle.premise.specs.Refusals.{number}
 use Rattle.premise.specs.WellKept.{FileKept}
 use Rattle.book.specs.Book.{filesOf}
 use Rattle.book.proofs.Kept.{count-is, book-kept-means}
 use Rattle.tape_text.specs.Text.{recordLine, noticeLine, fileLine, totalLine}
-use Rattle.tape_lengths.specs.Lengths.{lastAnswer, noticeLineMost, fileLineMost}
-use Rattle.tape_lengths.proofs.Lengths.{record-line, notice-line-of, file-line, total-line}
+use Rattle.tape_output.specs.Lengths.{lastAnswer, noticeLineMost, fileLineMost}
+use Rattle.tape_output.proofs.LineLengths.{record-line, notice-line-of, file-line, total-line}
 use Rattle.tape_reader.specs.Counts.{mostRecords}
 use Rattle.tape_output.specs.declared.Playing.{Playing}
 use Rattle.tape_output.specs.Output.{called, rowLines, recordText, fileLines, ending}
@@ -69,14 +71,16 @@ encoded-bytes (x ∷ xs) = (encode-bytes x, encoded-bytes xs)
 
 row-lines-most : (rs : List (List ℕ)) → Each Bytes rs → length (rowLines rs) ≤ noticeLineMost * length rs
 row-lines-most [] b = omega arith
-row-lines-most (r ∷ rs) b = omega (arith, length-append (noticeLine (decode r)) (rowLines rs), notice-line-of r (b .0), row-lines-most rs (b .1))
+row-lines-most (r ∷ rs) b =
+    omega (arith, length-append (noticeLine (decode r)) (rowLines rs), notice-line-of r (b .0), row-lines-most rs (b .1))
 
 -- the first n notices of a buffer
 pub buffer-lines-most : (n : ℕ) (buffer : List ℕ) → Bytes buffer → length (rowLines (rows n buffer)) ≤ noticeLineMost * n
 buffer-lines-most n buffer b = omega (arith, row-lines-most (rows n buffer) (rows-bytes n buffer b), rows-length n buffer)
 
 -- ---- a record's text
-pub record-text-most : (calendar : List ℕ) (p : Playing) (bytes : List ℕ) → p .reader .place < mostRecords → length (recordText calendar p bytes) ≤ recordTextMost
+pub record-text-most : (calendar : List ℕ) (p : Playing) (bytes : List ℕ) → p .reader .place < mostRecords
+    → length (recordText calendar p bytes) ≤ recordTextMost
 unfolding recordText
 record-text-most calendar p bytes left =
     let place = p .reader .place + 1 in
@@ -114,5 +118,6 @@ ending-most p ready =
       file-lines-most (filesOf (p .book)) (k .files),
       count-is (p .book) (k .tidy),
       k .tidy .few,
-      total-line (p .reader .accepted) (p .reader .refused) (omega (arith, ready .sound, ready .within)) (omega (arith, ready .sound, ready .within)),
+      total-line (p .reader .accepted) (p .reader .refused) (omega (arith, ready .sound, ready .within))
+          (omega (arith, ready .sound, ready .within)),
     )

@@ -9,8 +9,8 @@ use lib.ListN.{length, take, drop}
 use Rattle.records.specs.Layout.{recordLength}
 use Rattle.book.specs.Book.{mostFiles, bookKept}
 use Rattle.book.specs.Calls.{noticeBytes}
-use Rattle.tape_numbers.specs.Numbers.{Puts}
-use Rattle.tape_lengths.specs.Lengths.{mostNotices, recordLineMost, noticeLineMost, fileLineMost, totalLineMost}
+use Rattle.tape_text.specs.Numbers.{Puts}
+use Rattle.tape_output.specs.Lengths.{mostNotices, recordLineMost, noticeLineMost, fileLineMost, totalLineMost}
 use Rattle.tape_reader.specs.Counts.{mostRecords, Sound}
 use Rattle.tape_output.specs.declared.Playing.{Playing}
 use Rattle.tape_output.specs.declared.Stretch.{Stretch}
@@ -74,7 +74,8 @@ abbrev pub pieces : ℕ → List ℕ → ℕ → Playing → List (List ℕ) →
 pieces zero calendar room p records = []
 pieces (suc most) calendar room p records =
     stretch calendar room p records .text
-    ∷ cond (stretch calendar room p records .done) [] (pieces most calendar room (stretch calendar room p records .playing) (stretch calendar room p records .left))
+    ∷ cond (stretch calendar room p records .done) []
+    (pieces most calendar room (stretch calendar room p records .playing) (stretch calendar room p records .left))
 
 abbrev pub joined : List (List ℕ) → List ℕ
 joined [] = []
@@ -84,7 +85,8 @@ joined (xs ∷ xss) = xs ++ joined xss
 abbrev pub PiecesAreOutput : Type 0
 PiecesAreOutput =
     (calendar tape : List ℕ) (room : ℕ) → recordTextMost ≤ room
-    → joined (pieces (mostRecords + 1) (take calendarMost calendar) room starting (recordsOf mostRecords (take tapeMost tape))) ≡ output calendar tape
+    → joined (pieces (mostRecords + 1) (take calendarMost calendar) room starting (recordsOf mostRecords (take tapeMost tape)))
+    ≡ output calendar tape
 
 -- A stretch leaves the records that its reader has not played, and a tape that can be played on.
 pub record GoesOn (tape : List ℕ) (s : Stretched) : Type 0 where

@@ -1,6 +1,7 @@
-// The tape layer: what the tape program prints, as definitions, with the types of a tape that is being played. What the text is stands in
-// specs/Output.antt; that the stretches of a tape, one after another, are the whole output stands in specs/Stretches.antt. The code that
-// plays a stretch stands in `tape_player`.
+// What the tape program prints, as definitions, with the types of a tape that is being played. What the text is stands in
+// specs/Output.antt; that the stretches of a tape, one after another, are the whole output stands in specs/Stretches.antt; how long each
+// line can be in specs/Lengths.antt. The code that plays a stretch stands in `tape_player`.
+
 ghost use mathlib.Core.Path.{_≡_};
 ghost use Rattle.tape_output.specs.Output.{starting};
 use book::Book;

@@ -1,1 +1,4 @@
-pub mod Sample
+pub mod Digits
+pub mod Lengths
+pub mod Puts
+pub mod Putting

@@ -2,7 +2,7 @@
 use Prim.Native.Nat.{ℕ}
 use mathlib.Core.List.{List, [], _∷_, _++_}
 use Rattle.records.specs.declared.Notice.{Notice}
-use Rattle.tape_numbers.specs.Numbers.{decimal, spaced, lettered}
+use Rattle.tape_text.specs.Numbers.{decimal, spaced, lettered}
 
 -- Lines: place from 1, answer, n.
 unfoldable pub recordLine : ℕ → ℕ → ℕ → List ℕ

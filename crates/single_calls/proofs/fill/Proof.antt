@@ -1,4 +1,4 @@
--- `single_calls::fill` is safe. The loop's invariant: the buffer keeps its length. The measure is the bytes left. Assumes nothing.
+-- `fill` is safe. The loop's invariant: the buffer keeps its length. The measure is the bytes left. Assumes nothing.
 use Prim.Native.Nat.{_-_, _≤_}
 use mathlib.Core.Path.{_≡_}
 use borrow.Author.Needs.{needs}

@@ -1,4 +1,4 @@
--- `single_calls::main` is safe, and ends: a call's place is a number of 64 bits. The measure is the places left. Assumes nothing.
+-- `main` is safe, and ends: a call's place is a number of 64 bits. The measure is the places left. Assumes nothing.
 use Prim.Native.Nat.{_-_, _≤_}
 use borrow.Author.Needs.{needs}
 use Rattle.single_calls.proofs.main.Statement.{statement}

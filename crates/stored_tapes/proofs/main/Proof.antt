@@ -1,4 +1,4 @@
--- `stored_tapes::main`: two arguments a turn, so that the arguments come to an end.
+-- `main`: two arguments a turn, so that the arguments come to an end.
 use Prim.Native.Nat.{_-_}
 use borrow.Author.Needs.{needs}
 use Rattle.stored_tapes.proofs.main.Statement.{statement}

@@ -1,4 +1,4 @@
--- `tape_output::start` meets its contract: a reader before the first record, and a fresh book at day 0. Assumes nothing.
+-- `start` meets its contract: a reader before the first record, and a fresh book at day 0. Assumes nothing.
 use borrow.Author.Needs.{needs}
 use Rattle.tape_output.proofs.start.Statement.{statement}
 use Rattle.tape_output.proofs.start.Tie as tie

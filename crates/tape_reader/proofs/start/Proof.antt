@@ -1,4 +1,4 @@
--- `tape_reader::start` meets its contract: its three numbers are 0. Assumes nothing.
+-- `start` meets its contract: its three numbers are 0. Assumes nothing.
 use mathlib.Core.Path.{refl}
 use Rattle.tape_reader.proofs.start.Statement.{statement}
 use Rattle.tape_reader.proofs.start.Tie as tie

@@ -1,4 +1,4 @@
--- `tape_reader::step` meets its contract: one record on, counted by its answer. Assumes nothing.
+-- `step` meets its contract: one record on, counted by its answer. Assumes nothing.
 use mathlib.Core.Path.{refl}
 use borrow.Author.Needs.{needs}
 use borrow.Author.Tests.{eq-eqb, ne-eqb}

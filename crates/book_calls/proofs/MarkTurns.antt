@@ -1,0 +1,125 @@
+-- A turn of a day mark: the next file is marked, or stays since the mark does not touch it. Assumes nothing.
+use Prim.Native.Nat.{ℕ, _+_, _<_}
+use mathlib.Core.Path.{_≡_, sym, ap, subst, subst⁻¹, _∙_}
+use mathlib.Core.List.{List, [], _∷_, _++_, append-nil, map-append}
+use mathlib.Core.Bool.{Bool, false}
+use native.Mathlib.Numerals.{add-one}
+use native.Mathlib.Omega.{arith}
+use lib.ListN.{take, drop, length, getD, set, length-take}
+use lib.Seq.{take-suc, set-getD}
+use Rattle.lists.proofs.SearchLaws.{each-at}
+use Rattle.lists.proofs.Over.{next-at, next-stored}
+use Rattle.days.specs.Days.{isBusinessDay}
+use Rattle.days.specs.Window.{windowWidth, LastInWindow}
+use Rattle.records.specs.declared.Notice.{Notice}
+use Rattle.premise.specs.declared.File.{File}
+use Rattle.premise.specs.declared.FileAfter.{FileAfter}
+use Rattle.premise.specs.Orders.{held}
+use Rattle.premise.specs.OnePremise.{marked}
+use Rattle.premise.specs.WellKept.{Tidy}
+use Rattle.premise.specs.Promises.{Room, Writes, DoneToFile}
+use Rattle.premise_laws.proofs.Writes.{room-then, writes-then}
+use Rattle.premise_laws.specs.Changes.{markChangesFile}
+use Rattle.premise_laws.proofs.MarkChanges.{unchanged-stays}
+use Rattle.premise_laws.proofs.Then.{done-nothing}
+use Rattle.book.specs.declared.Book.{Book}
+use Rattle.book.specs.Book.{mostFiles, filesOf}
+use Rattle.book.specs.Calls.{markedFiles, markedNotices}
+use Rattle.book.specs.Laws.{TidyBook}
+use Rattle.book.proofs.Kept.{count-is}
+use Rattle.book.proofs.Marks.{mark-tells-in-order}
+use Rattle.book_files.proofs.Tidy.{past, withPlaces, at-file, length-files}
+use Rattle.book_calls.proofs.Marking.{Marking, room-for, length-marked}
+
+module _ {calendar : List ℕ} {day : ℕ} {b : Book} {buffer : List ℕ} {i sent : ℕ} {c : Book} {after : List ℕ}
+    (m : Marking calendar day b buffer i sent c after) (h : i < b .count) where
+  tidy : TidyBook b
+  tidy = m .asked .0
+
+  -- the first i files, marked, and their notices
+  abbrev done : List File
+  done = markedFiles calendar day (take i (filesOf b))
+
+  abbrev told : List Notice
+  told = markedNotices calendar day (take i (filesOf b))
+
+  pub mark-place : i < mostFiles
+  mark-place = omega (arith, h, tidy .few)
+
+  inside : i < length (filesOf b)
+  inside = omega (arith, count-is b tidy)
+
+  done-length : length done ≡ i
+  done-length = length-marked calendar day (take i (filesOf b)) ∙ omega (arith, length-take i (filesOf b), inside)
+
+  -- it
+  abbrev file : File
+  file = getD (filesOf b) i past
+
+  has-place : i < length (b .files)
+  has-place = omega (arith, length-files b tidy, mark-place)
+
+  -- with it the first i + 1 files
+  files-more : take (i + 1) (filesOf b) ≡ take i (filesOf b) ++ (file ∷ [])
+  files-more = rw (add-one i, take-suc (filesOf b) i past inside)
+
+  done-more : markedFiles calendar day (take (i + 1) (filesOf b)) ≡ done ++ (marked calendar day file .file ∷ [])
+  done-more = ap (markedFiles calendar day) files-more
+      ∙ map-append (λ (f : File). marked calendar day f .file) (take i (filesOf b)) (file ∷ [])
+
+  told-more : markedNotices calendar day (take (i + 1) (filesOf b)) ≡ told ++ marked calendar day file .notices
+  told-more =
+      ap (markedNotices calendar day) files-more
+      ∙ mark-tells-in-order calendar day (take i (filesOf b)) (file ∷ [])
+      ∙ ap (λ (l : List Notice). told ++ l) (append-nil (marked calendar day file .notices))
+
+  room-more : Room 0 (told ++ marked calendar day file .notices) buffer
+  room-more = subst (λ (l : List Notice). Room 0 l buffer) told-more (room-for m (i + 1))
+
+  -- it is as it was
+  same-file : getD (c .files) i past ≡ file
+  same-file =
+      ap (λ (x : Book). getD (x .files) i past) (m .here)
+      ∙ next-at past done (b .files) i done-length has-place
+      ∙ at-file b i h
+
+  -- it is tidy, and there is room for its notices
+  pub mark-tidy : Tidy (getD (c .files) i past)
+  mark-tidy = subst⁻¹ Tidy same-file (each-at Tidy (filesOf b) i past inside (m .asked .1))
+
+  pub mark-room : Room sent (marked calendar day (getD (c .files) i past) .notices) after
+  mark-room =
+      subst⁻¹ (λ (f : File). Room sent (marked calendar day f .notices) after) same-file
+      (room-then 0 buffer told (marked calendar day file .notices) room-more after sent (m .wrote))
+
+  -- one turn
+  pub mark-more : (r : FileAfter) {last : List ℕ} → DoneToFile (marked calendar day (getD (c .files) i past)) sent r after last
+      → Marking calendar day b buffer (i + 1) (r .sent) (withPlaces c (c .count) (set (c .files) i (r .file))) last
+  mark-more r {last} raw =
+      let did : DoneToFile (marked calendar day file) sent r after last =
+      subst (λ (f : File). DoneToFile (marked calendar day f) sent r after last) same-file raw in
+      record {
+        asked = m .asked;
+        within = omega arith;
+        here =
+            ap (λ (x : Book). withPlaces x (x .count) (set (x .files) i (r .file))) (m .here)
+            ∙ ap (λ (l : List File). record { today = day; count = b .count; files = l })
+            (next-stored past done (b .files) i done-length has-place (r .file)
+            ∙ ap (λ (f : File). (done ++ (f ∷ [])) ++ drop (i + 1) (b .files)) (did .file)
+            ∙ ap (λ (l : List File). l ++ drop (i + 1) (b .files)) (sym done-more));
+        wrote =
+            subst⁻¹ (λ (l : List Notice). Writes 0 buffer last (r .sent) l) told-more
+            (writes-then 0 buffer told (marked calendar day file .notices) room-more after sent (m .wrote) last (r .sent) (did .wrote));
+      }
+
+  -- a turn on a file that the mark does not touch
+  pub mark-still : {business touches : Bool} (last : ℕ) → business ≡ isBusinessDay calendar day → LastInWindow calendar windowWidth day last
+      → touches ≡ markChangesFile business day last (held (getD (c .files) i past)) → touches ≡ false
+      → Marking calendar day b buffer (i + 1) sent c after
+  mark-still last day-kind window tested stays =
+      let f : File = getD (c .files) i past in
+      let e : marked calendar day f ≡ record { file = f; notices = [] } =
+      unchanged-stays calendar day last f mark-tidy window
+      (ap (λ (x : Bool). markChangesFile x day last (held f)) (sym day-kind) ∙ sym tested ∙ stays) in
+      subst (λ (fs : List File). Marking calendar day b buffer (i + 1) sent (withPlaces c (c .count) fs) after) (set-getD (c .files) i past)
+      (mark-more (record { file = f; sent = sent }) (done-nothing (marked calendar day f) f sent after e))

@@ -1,5 +1,0 @@
-pub mod OnWay
-pub mod Picks
-pub mod OneCall
-pub mod Alone
-pub mod Demand3

@@ -1,0 +1,134 @@
+-- The test whether a book is well kept, part by part: what a turn over its files decides, what each part does, and what the two loops of
+-- the test have decided so far. Assumes nothing.
+use Prim.Native.Nat.{ℕ, _+_, _≤_, _<_}
+use mathlib.Core.Path.{_≡_, refl, sym, ap, _∙_}
+use mathlib.Core.List.{List, [], _∷_}
+use mathlib.Core.Bool.{Bool, true, false, _&&_, and-false}
+use native.Mathlib.Omega.{arith}
+use lib.Dec.{eqb, leb}
+use lib.ListN.{length, drop, getD}
+use borrow.Author.Tests.{eq-eqb, le-leb, lt-leb, lt-ltb, le-ltb}
+use Rattle.lists.specs.Search.{allOf}
+use Rattle.lists.proofs.Find.{drop-part, part-none, drop-first, drop-none, all-miss, all-next, all-end}
+use Rattle.lists.proofs.TestLaws.{and-left, and-right}
+use Rattle.days.specs.Days.{lastDay, isDay}
+use Rattle.premise.specs.declared.File.{File}
+use Rattle.premise.specs.WellKept.{fileKept, fileBlank}
+use Rattle.book.specs.declared.Book.{Book}
+use Rattle.book.specs.Book.{mostFiles, filesOf, risesFrom, bookKept}
+
+-- ---- the files held: well kept, and their numbers rise from above a number
+abbrev pub heldKept : ℕ → List File → Bool
+heldKept last fs = allOf fileKept fs && risesFrom last fs
+
+module _ (last : ℕ) {f : File} {left rest : List File} (e : left ≡ f ∷ rest) where
+  pub not-rising : f .premise ≤ last → heldKept last left ≡ false
+  not-rising h = rw (e, le-ltb last (f .premise) h, and-false (fileKept f && allOf fileKept rest))
+
+  pub not-kept : fileKept f ≡ false → heldKept last left ≡ false
+  not-kept h = rw (e, h)
+
+  pub rising-kept : last < f .premise → fileKept f ≡ true → heldKept last left ≡ heldKept (f .premise) rest
+  rising-kept h k = rw (e, k, lt-ltb last (f .premise) h)
+
+pub held-end : (last : ℕ) {left : List File} → left ≡ [] → heldKept last left ≡ true
+held-end last e = rw e
+
+-- ---- the parts
+one-fails : (x kept rising rest : Bool) → (kept && rising) ≡ false → (x && kept && rising && rest) ≡ false
+one-fails true true rising rest h = ap (λ (a : Bool). a && rest) h
+one-fails true false rising rest h = refl
+one-fails false kept rising rest h = refl
+
+module _ (b : Book) where
+  pub no-day : lastDay < b .today → bookKept b ≡ false
+  unfolding bookKept
+  no-day h = rw (lt-leb (b .today) lastDay h)
+
+  pub too-many : mostFiles < b .count → bookKept b ≡ false
+  unfolding bookKept
+  too-many h = rw (lt-leb (b .count) mostFiles h, and-false (isDay (b .today)))
+
+  pub held-fails : heldKept 0 (filesOf b) ≡ false → bookKept b ≡ false
+  unfolding bookKept
+  held-fails h =
+      one-fails (isDay (b .today) && leb (b .count) mostFiles && eqb (length (b .files)) mostFiles) (allOf fileKept (filesOf b))
+      (risesFrom 0 (filesOf b)) (allOf fileBlank (drop (b .count) (b .files))) h
+
+  -- the places after the files decide where the other parts passed
+  pub unused-decide : b .today ≤ lastDay → b .count ≤ mostFiles → length (b .files) ≡ mostFiles → heldKept 0 (filesOf b) ≡ true
+      → bookKept b ≡ allOf fileBlank (drop (b .count) (b .files))
+  unfolding bookKept
+  unused-decide day few long held =
+      rw (
+        le-leb (b .today) lastDay day,
+        le-leb (b .count) mostFiles few,
+        eq-eqb (length (b .files)) mostFiles long,
+        and-left (allOf fileKept (filesOf b)) (risesFrom 0 (filesOf b)) held,
+        and-right (allOf fileKept (filesOf b)) (risesFrom 0 (filesOf b)) held,
+      )
+
+-- ---- the loop over the files held: the test of those left gives what the test of all of them gives
+pub record HeldSofar (b : Book) (n last i : ℕ) : Type 0 where
+  pub within : i ≤ n
+  pub same : n ≡ b .count
+  pub few : n ≤ mostFiles
+  pub day : b .today ≤ lastDay
+  pub long : length (b .files) ≡ mostFiles
+  pub kept : heldKept last (drop i (filesOf b)) ≡ heldKept 0 (filesOf b)
+
+-- ---- the loop over the unused places: the test of those left gives what the test of the book gives
+pub record UnusedSofar (b : Book) (i : ℕ) : Type 0 where
+  pub within : i ≤ mostFiles
+  pub long : length (b .files) ≡ mostFiles
+  pub decides : allOf fileBlank (drop i (b .files)) ≡ bookKept b
+
+module _ {b : Book} {n last i : ℕ} (v : HeldSofar b n last i) where
+  -- a turn: the file at the place, and those after it
+  module _ (d : File) (h : i < n) where
+    turn : drop i (filesOf b) ≡ getD (b .files) i d ∷ drop (i + 1) (filesOf b)
+    turn = drop-part d (b .files) (b .count) i (omega (arith, v .long, v .few, v .same)) (omega (arith, v .same))
+
+    pub file-not-rising : getD (b .files) i d .premise ≤ last → false ≡ bookKept b
+    file-not-rising q = sym (held-fails b (sym (v .kept) ∙ not-rising last turn q))
+
+    pub file-not-kept : fileKept (getD (b .files) i d) ≡ false → false ≡ bookKept b
+    file-not-kept q = sym (held-fails b (sym (v .kept) ∙ not-kept last turn q))
+
+    pub file-passes : last < getD (b .files) i d .premise → fileKept (getD (b .files) i d) ≡ true
+        → HeldSofar b n (getD (b .files) i d .premise) (i + 1)
+    file-passes r k =
+        record {
+          within = omega arith;
+          same = v .same;
+          few = v .few;
+          day = v .day;
+          long = v .long;
+          kept = sym (rising-kept last turn r k) ∙ v .kept;
+        }
+
+  -- after the last one the unused places decide
+  pub held-done : n ≤ i → UnusedSofar b i
+  held-done h =
+      let end : i ≡ b .count = omega (arith, v .within, v .same) in
+      let held = sym (v .kept) ∙ held-end last (part-none (b .files) (b .count) i (omega (arith, end))) in
+      record {
+        within = omega (arith, v .within, v .few);
+        long = v .long;
+        decides = ap (λ (j : ℕ). allOf fileBlank (drop j (b .files))) end
+            ∙ sym (unused-decide b (v .day) (omega (arith, v .few, v .same)) (v .long) held);
+      }
+
+module _ {b : Book} {i : ℕ} (v : UnusedSofar b i) where
+  module _ (d : File) (h : i < mostFiles) where
+    place : drop i (b .files) ≡ getD (b .files) i d ∷ drop (i + 1) (b .files)
+    place = drop-first d (b .files) i (omega (arith, v .long))
+
+    pub place-not-blank : fileBlank (getD (b .files) i d) ≡ false → false ≡ bookKept b
+    place-not-blank q = sym (all-miss fileBlank place q) ∙ v .decides
+
+    pub place-passes : fileBlank (getD (b .files) i d) ≡ true → UnusedSofar b (i + 1)
+    place-passes q = record { within = omega arith; long = v .long; decides = sym (all-next fileBlank place q) ∙ v .decides }
+
+  pub unused-done : mostFiles ≤ i → true ≡ bookKept b
+  unused-done h = sym (all-end fileBlank (drop-none (b .files) i (omega (arith, v .long)))) ∙ v .decides

@@ -1,0 +1,121 @@
+-- Two lists of calls that are computed, the one a shuffle of the other, and what comes out of the first: what document 01 says.
+use Prim.Native.Nat.{ℕ, _*_}
+use mathlib.Core.Path.{_≡_}
+use mathlib.Core.List.{List, [], _∷_, _++_, map}
+use mathlib.Core.Bool.{Bool, true, not, _&&_}
+use lib.Dec.{ltb}
+use lib.ListN.{length, drop, replicate}
+use Rattle.lists.specs.Search.{allOf}
+use Rattle.records.specs.Layout.{recordLength}
+use Rattle.records.specs.Records.{reading}
+use Rattle.records.specs.Notices.{encodeAll, rows}
+use Rattle.book.specs.declared.Book.{Book}
+use Rattle.book.specs.Book.{freshBook}
+use Rattle.book.specs.Calls.{noticeBytes, Result, call, meetsRow6}
+use Rattle.demands.specs.Demand3.{Made, answers, noticesFor}
+
+-- a buffer of the shortest length that is taken
+unfoldable pub lent : List ℕ
+lent = replicate noticeBytes 0
+
+-- ---- a list of records played by the definition of the call
+unfoldable pub made : List ℕ → Result → Made
+made bytes x =
+    record {
+      bytes = bytes;
+      lent = lent;
+      reply = record { answer = x .answer; sent = length (x .notices); book = x .book };
+      after = encodeAll (x .notices) ++ drop (recordLength * length (x .notices)) lent;
+    }
+
+unfoldable pub plays : List ℕ → Book → List (List ℕ) → List Made
+plays calendar b [] = []
+plays calendar b (bytes ∷ tape) = let x = call calendar b bytes lent in made bytes x ∷ plays calendar (x .book) tape
+
+-- whether every byte of the records is one and none meets row 6: what demand 3 asks of them
+unfoldable pub allows : List ℕ → Book → List (List ℕ) → Bool
+allows calendar b [] = true
+allows calendar b (bytes ∷ tape) =
+    allOf (λ (x : ℕ). ltb x 256) bytes && not (meetsRow6 b (reading bytes)) && allows calendar (call calendar b bytes lent .book) tape
+
+-- ---- the records
+-- create 7, retailer 101, and create 5, retailer 102, both on day 0
+unfoldable pub create7 : List ℕ
+create7 = 1 ∷ 0 ∷ 0 ∷ 0 ∷ 0 ∷ 0 ∷ 0 ∷ 0 ∷ 7 ∷ 0 ∷ 0 ∷ 0 ∷ 0 ∷ 0 ∷ 0 ∷ 0 ∷ 101 ∷ 0 ∷ 0 ∷ 0 ∷ 0 ∷ 0 ∷ 0 ∷ 0 ∷ []
+
+unfoldable pub create5 : List ℕ
+create5 = 1 ∷ 0 ∷ 0 ∷ 0 ∷ 0 ∷ 0 ∷ 0 ∷ 0 ∷ 5 ∷ 0 ∷ 0 ∷ 0 ∷ 0 ∷ 0 ∷ 0 ∷ 0 ∷ 102 ∷ 0 ∷ 0 ∷ 0 ∷ 0 ∷ 0 ∷ 0 ∷ 0 ∷ []
+
+-- a standard switch on each: reference 1 to retailer 202, reference 9 to retailer 203
+unfoldable pub order7 : List ℕ
+order7 = 3 ∷ 3 ∷ 0 ∷ 0 ∷ 1 ∷ 0 ∷ 0 ∷ 0 ∷ 7 ∷ 0 ∷ 0 ∷ 0 ∷ 0 ∷ 0 ∷ 0 ∷ 0 ∷ 202 ∷ 0 ∷ 0 ∷ 0 ∷ 0 ∷ 0 ∷ 0 ∷ 0 ∷ []
+
+unfoldable pub order5 : List ℕ
+order5 = 3 ∷ 3 ∷ 0 ∷ 0 ∷ 9 ∷ 0 ∷ 0 ∷ 0 ∷ 5 ∷ 0 ∷ 0 ∷ 0 ∷ 0 ∷ 0 ∷ 0 ∷ 0 ∷ 203 ∷ 0 ∷ 0 ∷ 0 ∷ 0 ∷ 0 ∷ 0 ∷ 0 ∷ []
+
+-- both scheduled for day 3, which is out of window on day 0
+unfoldable pub scheduled7 : List ℕ
+scheduled7 = 4 ∷ 0 ∷ 3 ∷ 0 ∷ 1 ∷ 0 ∷ 0 ∷ 0 ∷ 7 ∷ 0 ∷ 0 ∷ 0 ∷ 0 ∷ 0 ∷ 0 ∷ 0 ∷ 0 ∷ 0 ∷ 0 ∷ 0 ∷ 0 ∷ 0 ∷ 0 ∷ 0 ∷ []
+
+unfoldable pub scheduled5 : List ℕ
+scheduled5 = 4 ∷ 0 ∷ 3 ∷ 0 ∷ 9 ∷ 0 ∷ 0 ∷ 0 ∷ 5 ∷ 0 ∷ 0 ∷ 0 ∷ 0 ∷ 0 ∷ 0 ∷ 0 ∷ 0 ∷ 0 ∷ 0 ∷ 0 ∷ 0 ∷ 0 ∷ 0 ∷ 0 ∷ []
+
+-- day 1, on which both are in window
+unfoldable pub mark1 : List ℕ
+mark1 = 10 ∷ 0 ∷ 1 ∷ 0 ∷ 0 ∷ 0 ∷ 0 ∷ 0 ∷ 0 ∷ 0 ∷ 0 ∷ 0 ∷ 0 ∷ 0 ∷ 0 ∷ 0 ∷ 0 ∷ 0 ∷ 0 ∷ 0 ∷ 0 ∷ 0 ∷ 0 ∷ 0 ∷ []
+
+unfoldable pub malformed : List ℕ
+malformed = 3 ∷ []
+
+-- every day a business day
+unfoldable pub calendar : List ℕ
+calendar = replicate 10 0
+
+unfoldable pub tape : List (List ℕ)
+tape = create7 ∷ create5 ∷ order7 ∷ create7 ∷ order5 ∷ malformed ∷ scheduled5 ∷ scheduled7 ∷ mark1 ∷ mark1 ∷ []
+
+unfoldable pub sample : List Made
+sample = plays calendar (freshBook 0) tape
+
+-- the same in another order between the premises, with the malformed one twice
+unfoldable pub shuffled : List (List ℕ)
+shuffled = create5 ∷ order5 ∷ create7 ∷ malformed ∷ malformed ∷ order7 ∷ scheduled5 ∷ create7 ∷ scheduled7 ∷ mark1 ∷ mark1 ∷ []
+
+unfoldable pub again : List Made
+again = plays calendar (freshBook 0) shuffled
+
+-- ---- the notices: the order to the TDSP, its day to the new retailer, and on the mark to the retailer that loses the premise
+unfoldable pub ordered7 : List ℕ
+ordered7 = 1 ∷ 3 ∷ 0 ∷ 0 ∷ 1 ∷ 0 ∷ 0 ∷ 0 ∷ 7 ∷ 0 ∷ 0 ∷ 0 ∷ 0 ∷ 0 ∷ 0 ∷ 0 ∷ 0 ∷ 0 ∷ 0 ∷ 0 ∷ 0 ∷ 0 ∷ 0 ∷ 0 ∷ []
+
+unfoldable pub dated7 : List ℕ
+dated7 = 3 ∷ 3 ∷ 3 ∷ 0 ∷ 1 ∷ 0 ∷ 0 ∷ 0 ∷ 7 ∷ 0 ∷ 0 ∷ 0 ∷ 0 ∷ 0 ∷ 0 ∷ 0 ∷ 202 ∷ 0 ∷ 0 ∷ 0 ∷ 0 ∷ 0 ∷ 0 ∷ 0 ∷ []
+
+unfoldable pub losing7 : List ℕ
+losing7 = 4 ∷ 3 ∷ 3 ∷ 0 ∷ 1 ∷ 0 ∷ 0 ∷ 0 ∷ 7 ∷ 0 ∷ 0 ∷ 0 ∷ 0 ∷ 0 ∷ 0 ∷ 0 ∷ 101 ∷ 0 ∷ 0 ∷ 0 ∷ 0 ∷ 0 ∷ 0 ∷ 0 ∷ []
+
+unfoldable pub ordered5 : List ℕ
+ordered5 = 1 ∷ 3 ∷ 0 ∷ 0 ∷ 9 ∷ 0 ∷ 0 ∷ 0 ∷ 5 ∷ 0 ∷ 0 ∷ 0 ∷ 0 ∷ 0 ∷ 0 ∷ 0 ∷ 0 ∷ 0 ∷ 0 ∷ 0 ∷ 0 ∷ 0 ∷ 0 ∷ 0 ∷ []
+
+unfoldable pub dated5 : List ℕ
+dated5 = 3 ∷ 3 ∷ 3 ∷ 0 ∷ 9 ∷ 0 ∷ 0 ∷ 0 ∷ 5 ∷ 0 ∷ 0 ∷ 0 ∷ 0 ∷ 0 ∷ 0 ∷ 0 ∷ 203 ∷ 0 ∷ 0 ∷ 0 ∷ 0 ∷ 0 ∷ 0 ∷ 0 ∷ []
+
+unfoldable pub losing5 : List ℕ
+losing5 = 4 ∷ 3 ∷ 3 ∷ 0 ∷ 9 ∷ 0 ∷ 0 ∷ 0 ∷ 5 ∷ 0 ∷ 0 ∷ 0 ∷ 0 ∷ 0 ∷ 0 ∷ 0 ∷ 102 ∷ 0 ∷ 0 ∷ 0 ∷ 0 ∷ 0 ∷ 0 ∷ 0 ∷ []
+
+-- what stands in each call's buffer on return
+unfoldable pub buffers : List Made → List (List (List ℕ))
+buffers ms = map (λ (m : Made). rows (m .reply .sent) (m .after)) ms
+
+-- ---- what comes out: for two premises, for one that has no file, and in every buffer
+pub record Comes : Type 0 where
+  pub answers7 : answers 7 sample ≡ 0 ∷ 0 ∷ 5 ∷ 0 ∷ 0 ∷ 15 ∷ []
+  pub answers5 : answers 5 sample ≡ 0 ∷ 0 ∷ 0 ∷ 0 ∷ 15 ∷ []
+  pub answers6 : answers 6 sample ≡ 0 ∷ 15 ∷ []
+  pub notices7 : noticesFor 7 sample ≡ ordered7 ∷ dated7 ∷ losing7 ∷ []
+  pub notices5 : noticesFor 5 sample ≡ ordered5 ∷ dated5 ∷ losing5 ∷ []
+  pub notices6 : noticesFor 6 sample ≡ []
+  pub all : buffers sample ≡ [] ∷ [] ∷ (ordered7 ∷ []) ∷ [] ∷ (ordered5 ∷ []) ∷ [] ∷ (dated5 ∷ []) ∷ (dated7 ∷ [])
+      ∷ (losing5 ∷ losing7 ∷ []) ∷ [] ∷ []
+  pub allowed : allows calendar (freshBook 0) tape ≡ true
+  pub allowed-again : allows calendar (freshBook 0) shuffled ≡ true

@@ -1,0 +1,2 @@
+pub mod ByStatus
+pub mod Waiting

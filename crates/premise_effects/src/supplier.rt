@@ -1,0 +1,27 @@
+// Who supplies the premise after a record.
+ghost use mathlib.Core.Path.{_≡_};
+ghost use Rattle.premise.specs.Steps.{supplied};
+use premise::File;
+use premise::Order;
+use records::Record;
+
+// The file after a record: a read of a Scheduled order, on a day not before the one since which the retailer holds, hands the premise to
+// the order's retailer, and to nobody for a move out.
+pub fn supply(file: File, r: Record, o: Order) -> File
+    ensures { λ f. ⌜ f ≡ supplied file r o ⌝ }
+{
+    let day = r.day;
+    if !((r.kind == records::record_kind::READ)
+        & (o.status == premise::SCHEDULED)
+        & (file.since <= day)) {
+        return file;
+    }
+    let mut f = file;
+    f.since = day;
+    if o.kind == records::order_kind::MOVE_OUT {
+        f.retailer = premise::NOBODY;
+        return f;
+    }
+    f.retailer = o.submitter;
+    f
+}

@@ -1,0 +1,2 @@
+pub mod GivesWay
+pub mod SwitchOfDay

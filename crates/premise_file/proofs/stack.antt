@@ -1,0 +1,4 @@
+pub mod Eight
+pub mod Places
+pub mod Room
+pub mod Shift

@@ -1,0 +1,61 @@
+// A file without orders, unused or new.
+ghost use mathlib.Core.Path.{_≡_};
+ghost use lib.ListN.{replicate};
+ghost use Rattle.premise.specs.Orders.{mostOrders, blank, blankFile};
+ghost use Rattle.premise.specs.Steps.{newFile};
+use premise::BusinessDays;
+use premise::CalendarDays;
+use premise::File;
+use premise::Order;
+use records::Record;
+
+// An unused place.
+fn blank_order() -> Order
+    ensures { λ r. ⌜ r ≡ blank ⌝ }
+{
+    Order {
+        reference: 0,
+        kind: 0,
+        submitter: 0,
+        requested: 0,
+        scheduled: 0,
+        status: 0,
+        waited: BusinessDays(0),
+        pending: CalendarDays(0),
+        told: 0,
+    }
+}
+
+// A file without orders.
+fn empty_file(premise: u64, retailer: u32, since: u16) -> File
+    ensures { λ r. ⌜ r ≡ record {
+      premise = premise;
+      retailer = retailer;
+      since = since;
+      count = 0;
+      orders = replicate mostOrders blank;
+    } ⌝ }
+{
+    let none = blank_order();
+    File {
+        premise: premise,
+        retailer: retailer,
+        since: since,
+        count: 0,
+        orders: [none; premise::MOST_ORDERS],
+    }
+}
+
+// An unused file.
+pub fn blank_file() -> File
+    ensures { λ r. ⌜ r ≡ blankFile ⌝ }
+{
+    empty_file(0, 0, 0)
+}
+
+// The file that a create makes.
+pub fn new_file(r: Record) -> File
+    ensures { λ f. ⌜ f ≡ newFile r ⌝ }
+{
+    empty_file(r.premise, r.retailer, r.day)
+}

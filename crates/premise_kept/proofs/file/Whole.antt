@@ -1,0 +1,44 @@
+-- Laws of a whole file: its test, part by part, where the parts before passed. Assumes nothing.
+use Prim.Native.Nat.{_≤_}
+use mathlib.Core.Path.{_≡_}
+use mathlib.Core.Bool.{Bool, true, false, not, _&&_, and-false}
+use lib.Dec.{eqb, leb}
+use lib.ListN.{length, drop}
+use borrow.Author.Tests.{eq-eqb, leb-true, not-true, not-false}
+use Rattle.lists.specs.Search.{allOf}
+use Rattle.lists.proofs.TestLaws.{and-right}
+use Rattle.days.specs.Days.{isDay}
+use Rattle.records.specs.Records.{aPremise, aRetailerOrNone}
+use Rattle.premise.specs.declared.File.{File}
+use Rattle.premise.specs.Orders.{mostOrders, held}
+use Rattle.premise.specs.WellKept.{orderKept, distinct, isBlank, fileKept}
+
+module _ (f : File) where
+  -- the fields besides the orders
+  abbrev headKept : Bool
+  headKept = aPremise (f .premise) && aRetailerOrNone (f .retailer) && isDay (f .since) && leb (f .count) mostOrders
+
+  pub head-few : not headKept ≡ false → f .count ≤ mostOrders
+  head-few e =
+      leb-true (f .count) mostOrders
+      (and-right (aPremise (f .premise) && aRetailerOrNone (f .retailer) && isDay (f .since)) (leb (f .count) mostOrders)
+      (not-false headKept e))
+
+  -- ---- the whole: a part that fails
+  pub kept-no-head : not headKept ≡ true → false ≡ fileKept f
+  unfolding fileKept
+  kept-no-head e = rw (not-true headKept e)
+
+  pub kept-no-orders : allOf orderKept (held f) ≡ false → fileKept f ≡ false
+  unfolding fileKept
+  kept-no-orders e = rw (e, and-false (headKept && eqb (length (f .orders)) mostOrders))
+
+  pub kept-no-references : distinct (held f) ≡ false → fileKept f ≡ false
+  unfolding fileKept
+  kept-no-references e = rw (e, and-false (headKept && eqb (length (f .orders)) mostOrders && allOf orderKept (held f)))
+
+  -- the places after the orders decide where the other parts passed
+  pub kept-rest : length (f .orders) ≡ mostOrders → not headKept ≡ false → allOf orderKept (held f) ≡ true → distinct (held f) ≡ true
+      → fileKept f ≡ allOf isBlank (drop (f .count) (f .orders))
+  unfolding fileKept
+  kept-rest eight h o d = rw (not-false headKept h, eq-eqb (length (f .orders)) mostOrders eight, o, d)

@@ -1,2 +1,0 @@
-pub mod Then
-mod Evaluating

@@ -1,0 +1,2 @@
+pub mod NamedAnswers
+pub mod NewOrderAnswers

@@ -1,0 +1,2 @@
+pub mod NewOrderRows
+pub mod NamedRows

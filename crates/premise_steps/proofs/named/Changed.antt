@@ -1,0 +1,59 @@
+-- A file with an order changed in its place. Assumes nothing.
+use Prim.Native.Nat.{ℕ, _<_}
+use mathlib.Core.Path.{_≡_, refl, ap, ap₂, subst, subst⁻¹, _∙_}
+use mathlib.Core.List.{List}
+use mathlib.Core.Bool.{cond, _&&_}
+use lib.Dec.{leb}
+use lib.ListN.{set, getD}
+use Rattle.lists.proofs.TestLaws.{by-test}
+use Rattle.records.specs.declared.Record.{Record}
+use Rattle.records.specs.Records.{kindRead, moveOut}
+use Rattle.premise.specs.declared.Order.{Order}
+use Rattle.premise.specs.declared.File.{File}
+use Rattle.premise.specs.declared.OrderAfter.{OrderAfter}
+use Rattle.premise.specs.Orders.{scheduled, hasStatus, hasKind, noRetailer, blank, held, withOrders, withSupply}
+use Rattle.premise.specs.Steps.{is, onOrder, supplied, changed}
+use Rattle.premise.specs.WellKept.{Tidy}
+use Rattle.premise.specs.Promises.{Room, DoneToOrder, DoneToFile}
+use Rattle.premise_laws.proofs.FileOrders.{tidy-supply, tidy-set}
+
+module _ (f : File) (r : Record) (o : Order) where
+  -- a record changes who supplies the premise, and none of its orders
+  supply-by : (P : File → Type 0) → P f → ((retailer since : ℕ) → P (withSupply f retailer since)) → P (supplied f r o)
+  unfolding supplied
+  supply-by P same other =
+      by-test P (is kindRead r && hasStatus scheduled o && leb (f .since) (r .day))
+      (withSupply f (cond (hasKind moveOut o) noRetailer (o .submitter)) (r .day)) f
+      (λ e. other (cond (hasKind moveOut o) noRetailer (o .submitter)) (r .day)) (λ e. same)
+
+  supplied-held : held (supplied f r o) ≡ held f
+  supplied-held = supply-by (λ (g : File). held g ≡ held f) refl (λ retailer since. refl)
+
+  pub supplied-ready : Tidy f → (i : ℕ) → i < f .count → (h : File) → h ≡ supplied f r o → Tidy h × (i < h .count)
+  supplied-ready tidy i b h e =
+      subst⁻¹ (λ (g : File). Tidy g × (i < g .count)) e
+      (supply-by (λ (g : File). Tidy g × (i < g .count)) (tidy, b) (λ retailer since. (tidy-supply f tidy retailer since, b)))
+
+pub changed-tidy : (h : File) → Tidy h → (i : ℕ) (t : Order) (g : File) → g ≡ withOrders h (set (held h) i t) → Tidy g
+changed-tidy h tidy i t g e = subst⁻¹ Tidy e (tidy-set h tidy i t)
+
+-- the file with it, and its notices; s is what the code made of the order, h the file with its supply
+module _ (f : File) (r : Record) (i : ℕ) {o : Order} (e : o ≡ getD (held f) i blank) where
+  pub changed-room : (standing : ℕ) (b : List ℕ) → Room standing (changed f r i (getD (held f) i blank) .notices) b
+      → Room standing (onOrder f r o .notices) b
+  unfolding changed
+  changed-room standing b room = subst⁻¹ (λ (x : Order). Room standing (onOrder f r x .notices) b) e room
+
+  pub changed-done : {standing : ℕ} {s : OrderAfter} {b c : List ℕ} → DoneToOrder (onOrder f r o) standing s b c → {h : File}
+      → h ≡ supplied f r o
+      → {g : File} → g ≡ withOrders h (set (held h) i (s .order))
+      → DoneToFile (changed f r i (getD (held f) i blank)) standing (record { file = g; sent = s .sent }) b c
+  unfolding changed
+  changed-done {standing} {s} {b} {c} done k {g} q =
+      subst (λ (x : Order). DoneToFile (changed f r i x) standing (record { file = g; sent = s .sent }) b c) e
+      (record {
+        file =
+            q ∙ ap (λ (x : File). withOrders x (set (held x) i (s .order))) k
+            ∙ ap₂ (λ (os : List Order) (x : Order). withOrders (supplied f r o) (set os i x)) (supplied-held f r o) (done .order);
+        wrote = done .wrote;
+      })

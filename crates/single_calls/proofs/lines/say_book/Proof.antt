@@ -1,0 +1,66 @@
+-- `say_book` is safe. The loop's invariant: the place is at most 64. The measure is the places left. Assumes nothing.
+use Prim.Native.Nat.{_-_, _≤_}
+use borrow.Author.Needs.{needs}
+use Rattle.single_calls.proofs.lines.say_book.Statement.{statement}
+use Rattle.single_calls.proofs.lines.say_book.Tie as tie
+
+abbrev Inv-loop : tie.InvT-loop
+Inv-loop b i₀ i = i ≤ 64
+
+abbrev μ-loop : tie.MeasureT-loop
+μ-loop b i₀ i = 64 - i
+
+cast-t8 : tie.Need-cast-t8 Inv-loop μ-loop
+cast-t8 c = search needs
+
+slice-aggregate-say : tie.Need-slice-aggregate-say Inv-loop μ-loop
+slice-aggregate-say c = search needs
+
+say-requires : tie.Need-say-requires Inv-loop μ-loop
+say-requires c κs = search needs
+
+loop-holds : tie.Need-loop-holds Inv-loop μ-loop
+loop-holds c = search needs
+
+mul-f : tie.Need-mul-f Inv-loop μ-loop
+mul-f c = search needs
+
+element-copy-out-f : tie.Need-element-copy-out-f Inv-loop μ-loop
+element-copy-out-f c = search needs
+
+file-blank-requires : tie.Need-file-blank-requires Inv-loop μ-loop
+file-blank-requires c κs = search needs
+
+say-file-requires : tie.Need-say-file-requires Inv-loop μ-loop
+say-file-requires c κs = search needs
+
+add-i : tie.Need-add-i Inv-loop μ-loop
+add-i c = search needs
+
+loop-less : tie.Need-loop-less Inv-loop μ-loop
+loop-less c = search needs
+
+loop-again : tie.Need-loop-again Inv-loop μ-loop
+loop-again c = search needs
+
+returns : tie.Need-returns Inv-loop μ-loop
+returns c = search needs
+
+pub say-book-spec : {M : Type 1} → statement M
+say-book-spec =
+    tie.close
+    (tie.spec
+    Inv-loop
+    μ-loop
+    cast-t8
+    slice-aggregate-say
+    say-requires
+    loop-holds
+    mul-f
+    element-copy-out-f
+    file-blank-requires
+    say-file-requires
+    add-i
+    loop-less
+    loop-again
+    returns)

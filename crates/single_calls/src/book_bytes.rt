@@ -1,0 +1,87 @@
+// A book from its bytes, for single calls: all numbers low byte first, every place of it written whether it is used or not, in range or
+// not.
+ghost use Prim.Native.Nat.{_+_, _≤_};
+ghost use lib.ListN.{length};
+use book::Book;
+use premise::BusinessDays;
+use premise::CalendarDays;
+use premise::File;
+use premise::Order;
+use record_bytes::eight;
+use record_bytes::four;
+use record_bytes::two;
+use record_bytes::wide;
+
+const ORDER_BYTES: usize = 17;
+
+// a file: its head, and 8 orders
+const HEAD_BYTES: usize = 15;
+
+const FILE_BYTES: usize = 151;
+
+// a book: its head of 3 bytes, and 64 files
+pub const BOOK_BYTES: usize = 9_667;
+
+// An order, from its 17 bytes.
+fn order_from(bytes: &[u8], at: usize) -> Order
+    requires { ⌜ at + 17 ≤ length (now bytes) ⌝ }
+{
+    let waited = BusinessDays(bytes[at + 14]);
+    let pending = CalendarDays(bytes[at + 15]);
+    Order {
+        reference: four(bytes, at),
+        kind: bytes[at + 4],
+        submitter: four(bytes, at + 5),
+        requested: two(bytes, at + 9),
+        scheduled: two(bytes, at + 11),
+        status: bytes[at + 13],
+        waited: waited,
+        pending: pending,
+        told: bytes[at + 16],
+    }
+}
+
+// A file with no order yet, from the 15 bytes of its head.
+fn head_from(bytes: &[u8], at: usize) -> File
+    requires { ⌜ at + 15 ≤ length (now bytes) ⌝ }
+{
+    let mut file = premise_file::blank_file();
+    file.premise = eight(bytes, at);
+    file.retailer = four(bytes, at + 8);
+    file.since = two(bytes, at + 12);
+    file.count = wide(bytes[at + 14]) as usize;
+    file
+}
+
+// A file, from its 151 bytes.
+fn file_from(bytes: &[u8], at: usize) -> File
+    requires { ⌜ at + 151 ≤ length (now bytes) ⌝ }
+{
+    let mut file = head_from(bytes, at);
+    let mut i: usize = 0;
+    let mut from = at + HEAD_BYTES;
+    while i < premise::MOST_ORDERS {
+        let o = order_from(bytes, from);
+        file.orders[i] = o;
+        from += ORDER_BYTES;
+        i += 1;
+    }
+    file
+}
+
+// A book, from its 9,667 bytes.
+pub fn book_from(bytes: &[u8]) -> Book
+    requires { ⌜ 9667 ≤ length (now bytes) ⌝ }
+{
+    let mut b = book_files::empty(two(bytes, 0));
+    b.count = wide(bytes[2]) as usize;
+    let mut i: usize = 0;
+    let mut from: usize = 3;
+    while i < book::MOST_FILES {
+        let f = file_from(bytes, from);
+        b.files[i] = f;
+        from += FILE_BYTES;
+        i += 1;
+    }
+    b
+}

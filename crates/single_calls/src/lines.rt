@@ -1,0 +1,121 @@
+// The lines of a single call: what came back, written to standard output.
+ghost use Prim.Native.Nat.{_+_, _≤_};
+ghost use lib.ListN.{length};
+ghost use Rattle.records.specs.Layout.{recordLength};
+use book::Book;
+use premise::File;
+use premise::Order;
+
+// A line: a letter and at most 11 numbers.
+pub fn say(letter: u8, numbers: &[u64])
+    requires { ⌜ length (now numbers) ≤ 11 ⌝ }
+{
+    let mut out = [0u8; 256];
+    let stop = tape_text::put_lettered(letter, numbers, 0, &mut out);
+    io::write_all(libc::STDOUT_FILENO, &out[..stop]);
+}
+
+// A notice's line, read from the buffer.
+fn say_notice(buffer: &[u8], at: usize)
+    requires { ⌜ at + recordLength ≤ length (now buffer) ⌝ }
+{
+    let notice = record_bytes::read_notice(&buffer[at..]);
+    say(
+        b'n',
+        &[
+            notice.code as u64,
+            notice.kind as u64,
+            notice.day as u64,
+            notice.reference as u64,
+            notice.premise,
+            notice.addressee as u64,
+        ],
+    );
+}
+
+// The lines of the first n notices of a buffer; fewer, where it does not hold so many.
+pub fn say_notices(buffer: &[u8], n: usize) {
+    let mut i: usize = 0;
+    let mut at: usize = 0;
+    while i < n {
+        if buffer.len() - at < records::RECORD_LENGTH {
+            return;
+        }
+        say_notice(buffer, at);
+        at += records::RECORD_LENGTH;
+        i += 1;
+    }
+}
+
+// The line of a byte at a place of the buffer.
+fn say_byte(place: usize, byte: u8) {
+    say(b'x', &[place as u64, byte as u64]);
+}
+
+// A line for each byte after the first n notices that is not the pattern any more.
+pub fn say_changed(buffer: &[u8], n: usize, pattern: u8) {
+    let mut i: usize = 0;
+    while i < buffer.len() {
+        if n <= i / records::RECORD_LENGTH && buffer[i] != pattern {
+            say_byte(i, buffer[i]);
+        }
+        i += 1;
+    }
+}
+
+// The line of an order place of a file place.
+fn say_order(file_place: usize, place: usize, o: Order) {
+    let waited = o.waited;
+    let pending = o.pending;
+    say(
+        b'o',
+        &[
+            file_place as u64,
+            place as u64,
+            o.reference as u64,
+            o.kind as u64,
+            o.submitter as u64,
+            o.requested as u64,
+            o.scheduled as u64,
+            o.status as u64,
+            waited.0 as u64,
+            pending.0 as u64,
+            o.told as u64,
+        ],
+    );
+}
+
+// A file place's line, and those of its order places that are in use or not zero.
+fn say_file(place: usize, f: File) {
+    say(
+        b'f',
+        &[
+            place as u64,
+            f.premise,
+            f.retailer as u64,
+            f.since as u64,
+            f.count as u64,
+        ],
+    );
+    let mut i: usize = 0;
+    while i < premise::MOST_ORDERS {
+        let o = f.orders[i];
+        if i < f.count || !premise_kept::is_blank(o) {
+            say_order(place, i, o);
+        }
+        i += 1;
+    }
+}
+
+// The book's line, and those of its file places that are in use or not zero.
+pub fn say_book(b: Book) {
+    say(b'b', &[b.today as u64, b.count as u64]);
+    let mut i: usize = 0;
+    while i < book::MOST_FILES {
+        let f = b.files[i];
+        if i < b.count || !premise_kept::file_blank(f) {
+            say_file(i, f);
+        }
+        i += 1;
+    }
+}

@@ -1,2 +1,0 @@
-pub mod Filed
-pub mod Closing

@@ -1,0 +1,4 @@
+pub mod Records
+pub mod Stretching
+pub mod Turns
+pub mod Ways

@@ -1,4 +1,0 @@
-pub mod Records
-pub mod Stretching
-pub mod Ways
-pub mod Turns

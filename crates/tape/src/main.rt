@@ -1,10 +1,39 @@
 // The tape program: reads the first 4,096 bytes of calendar.bin (absent counts as empty), plays the first 65,520 bytes of standard input
 // over a fresh book at day 0, and prints what the calls gave. What it prints is proved in `tape_player`; here it is read and written.
+ghost use mathlib.Core.Path.{_≡_};
+ghost use Rattle.tape.specs.Advice.{beginsAsText};
 
 // Says on standard error what went wrong and what to do.
 fn complain(what: &[u8], advice: &[u8]) {
     os::fail(what);
     io::write_all(libc::STDERR_FILENO, advice);
+}
+
+// Whether a tape begins with a printable character, as a readable one does: no kind of record is such a byte.
+fn begins_as_text(tape: &[u8]) -> bool
+    ensures { λ r. ⌜ r ≡ beginsAsText (now (tape .entry)) ⌝ }
+{
+    if tape.len() == 0 {
+        return false;
+    }
+    let first = tape[0];
+    (b' ' <= first) & (first <= b'~')
+}
+
+// Says on standard error what a tape that was played may be lacking: a calendar, or its bytes.
+fn advise(days: usize, tape: &[u8]) {
+    if days == 0 {
+        io::write_all(
+            libc::STDERR_FILENO,
+            b"tape: played without business days: calendar.bin in the current folder is missing or empty\n",
+        );
+    }
+    if begins_as_text(tape) {
+        io::write_all(
+            libc::STDERR_FILENO,
+            b"tape: the tape begins as a text, but records are bytes; make them of it by tapetext encode, or play it by ./play\n",
+        );
+    }
 }
 
 fn main() {
@@ -35,5 +64,7 @@ fn main() {
             b"tape: cannot write to standard output",
             b"tape: the output is not whole; make room or give another place, and play the tape again\n",
         );
+        return;
     }
+    advise(days_read, &tape[0..bytes_read]);
 }

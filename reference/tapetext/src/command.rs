@@ -13,6 +13,10 @@ pub enum Command {
         tape: String,
         calendar: Option<String>,
     },
+    Explain {
+        text: String,
+        played: String,
+    },
 }
 
 pub const HELP: &str = "\
@@ -20,12 +24,19 @@ tapetext: tapes of the stacking book as readable text
 
   tapetext encode FILE --tape OUT [--calendar OUT]   text to bytes
   tapetext decode --tape IN [--calendar IN]          bytes to text, on standard output
+  tapetext explain FILE --played IN                  what the tape program printed, in words
   tapetext --help
 
 A file named - is standard input or output. A text that says \"calendar absent\"
 writes no calendar; bytes decoded without --calendar give such a text. Every bad
 line is told on standard error with its number; then nothing is written, and the
-exit status is 1.
+exit status is 1. A tape of more than 65,520 bytes is written, with a warning: the
+tape program leaves the records past them out.
+
+explain repeats the lines that the tape program printed for a text: below each
+refused record the line it came from and the row in words, and before the last
+line the flats without a retailer. What is not the whole output for the text is
+told on standard error, and the exit status is 1.
 
 Example: the text of a tape. Everything after # is a comment.
 
@@ -75,13 +86,15 @@ pub fn parse(arguments: &[String]) -> Result<Command, String> {
     match rest.next() {
         Some("encode") => parse_encode(Parts::collect(rest)?),
         Some("decode") => parse_decode(Parts::collect(rest)?),
+        Some("explain") => parse_explain(Parts::collect(rest)?),
         Some("--help" | "-h") => Ok(Command::Help),
-        Some(other) => Err(format!("\"{other}\" is neither encode nor decode")),
-        None => Err("neither encode nor decode is given".to_string()),
+        Some(other) => Err(format!("\"{other}\" is not encode, decode or explain")),
+        None => Err("none of encode, decode and explain is given".to_string()),
     }
 }
 
 fn parse_encode(parts: Parts) -> Result<Command, String> {
+    refuse("encode", "--played", parts.played.as_ref())?;
     let text = parts.file.ok_or("encode needs FILE")?;
     let tape = parts.tape.ok_or("encode needs --tape OUT")?;
     keep_apart(&tape, parts.calendar.as_deref())?;
@@ -97,6 +110,7 @@ fn parse_encode(parts: Parts) -> Result<Command, String> {
 }
 
 fn parse_decode(parts: Parts) -> Result<Command, String> {
+    refuse("decode", "--played", parts.played.as_ref())?;
     if let Some(file) = parts.file {
         return Err(format!("decode takes no FILE, but got \"{file}\""));
     }
@@ -108,6 +122,25 @@ fn parse_decode(parts: Parts) -> Result<Command, String> {
     })
 }
 
+fn parse_explain(parts: Parts) -> Result<Command, String> {
+    refuse("explain", "--tape", parts.tape.as_ref())?;
+    refuse("explain", "--calendar", parts.calendar.as_ref())?;
+    let text = parts.file.ok_or("explain needs FILE")?;
+    let played = parts.played.ok_or("explain needs --played IN")?;
+    if text == played {
+        return Err(format!("text and output can't both be \"{text}\""));
+    }
+    Ok(Command::Explain { text, played })
+}
+
+/// A command takes no option of another.
+fn refuse(command: &str, option: &str, value: Option<&String>) -> Result<(), String> {
+    match value {
+        Some(_) => Err(format!("{command} takes no {option}")),
+        None => Ok(()),
+    }
+}
+
 fn keep_apart(tape: &str, calendar: Option<&str>) -> Result<(), String> {
     match calendar {
         Some(calendar) if calendar == tape => {
@@ -117,12 +150,13 @@ fn keep_apart(tape: &str, calendar: Option<&str>) -> Result<(), String> {
     }
 }
 
-/// The arguments after encode or decode, each at most once.
+/// The arguments after the first, each at most once.
 #[derive(Default)]
 struct Parts {
     file: Option<String>,
     tape: Option<String>,
     calendar: Option<String>,
+    played: Option<String>,
 }
 
 impl Parts {
@@ -132,6 +166,7 @@ impl Parts {
             let (place, value) = match argument {
                 "--tape" => (&mut parts.tape, arguments.next()),
                 "--calendar" => (&mut parts.calendar, arguments.next()),
+                "--played" => (&mut parts.played, arguments.next()),
                 option if option.starts_with("--") => {
                     return Err(format!("there is no option {option}"))
                 }
@@ -174,14 +209,32 @@ mod tests {
                 calendar: None,
             })
         );
+        let explain = parsed("explain t.txt --played -");
+        assert_eq!(
+            explain,
+            Ok(Command::Explain {
+                text: "t.txt".into(),
+                played: "-".into(),
+            })
+        );
         assert_eq!(parsed("--help"), Ok(Command::Help));
     }
 
     #[test]
     fn each_wrong_command_line_is_told() {
         for (line, wrong) in [
-            ("", "neither encode nor decode is given"),
-            ("play", "\"play\" is neither encode nor decode"),
+            ("", "none of encode, decode and explain is given"),
+            ("play", "\"play\" is not encode, decode or explain"),
+            ("explain --played t", "explain needs FILE"),
+            ("explain t.txt", "explain needs --played IN"),
+            (
+                "explain - --played -",
+                "text and output can't both be \"-\"",
+            ),
+            ("explain t --played u --tape v", "explain takes no --tape"),
+            ("explain t --calendar c", "explain takes no --calendar"),
+            ("encode t --tape u --played v", "encode takes no --played"),
+            ("decode --tape u --played v", "decode takes no --played"),
             ("encode --tape t.bin", "encode needs FILE"),
             ("encode t.txt", "encode needs --tape OUT"),
             ("encode t.txt --tape", "--tape needs a file name"),

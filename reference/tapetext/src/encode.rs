@@ -4,13 +4,29 @@ use crate::calendar::{self, is_calendar_word};
 use crate::form::{DAY, RECORD_BYTES};
 use crate::line::{days, words};
 use crate::problem::{Fault, Problem};
-use crate::{record, Tape};
+use crate::{record, Lined, Tape};
+
+/// What some editors put before a text; no word begins with it.
+const BYTE_ORDER_MARK: char = '\u{feff}';
 
 /// The tape and calendar that a text says, or everything that is wrong with
 /// it, line by line.
 pub fn encode(text: &str) -> Result<Tape, Vec<Problem>> {
+    encode_lined(text).map(|lined| lined.tape)
+}
+
+/// The same, with the line that each record came from.
+pub fn encode_lined(text: &str) -> Result<Lined, Vec<Problem>> {
     let mut reader = Reader::default();
-    for line in text.lines() {
+    let unmarked = text.strip_prefix(BYTE_ORDER_MARK);
+    if unmarked.is_some() {
+        let fault = Fault::new(
+            "a byte order mark stands before the text",
+            "UTF-8 without one",
+        );
+        reader.problems.push(fault.at(1));
+    }
+    for line in unmarked.unwrap_or(text).lines() {
         reader.line += 1;
         if let Err(fault) = reader.take(&words(line)) {
             reader.problems.push(fault.at(reader.line));
@@ -26,6 +42,8 @@ struct Reader {
     line: usize,
     calendar: CalendarPart,
     records: Vec<u8>,
+    /// For each record the number of its line.
+    lines: Vec<usize>,
     /// A raw record that is short, and the line it stands on.
     short: Option<(usize, usize)>,
     problems: Vec<Problem>,
@@ -57,12 +75,13 @@ impl Reader {
     }
 
     fn take_calendar(&mut self, words: &[&str]) -> Result<(), Fault> {
-        if !self.records.is_empty() {
+        if let Some(first) = self.lines.first() {
             if let CalendarPart::Unsaid = self.calendar {
                 self.calendar = CalendarPart::Bad;
             }
             let wrong = format!("\"{}\" stands after a record", words[0]);
-            return Err(Fault::new(wrong, "the calendar before the first record"));
+            let expected = format!("the calendar before the first record (line {first})");
+            return Err(Fault::new(wrong, expected));
         }
         match (&mut self.calendar, words[0]) {
             (CalendarPart::Unsaid, "calendar") => self.begin_calendar(words),
@@ -103,6 +122,7 @@ impl Reader {
     fn push(&mut self, record: &[u8]) {
         self.hold_short_against_text();
         self.records.extend_from_slice(record);
+        self.lines.push(self.line);
         if record.len() < RECORD_BYTES {
             self.short = Some((self.line, record.len()));
         }
@@ -118,13 +138,19 @@ impl Reader {
         }
     }
 
-    fn finish(mut self) -> Result<Tape, Vec<Problem>> {
+    /// A text without a calendar: its first record came too early, or it ends.
+    fn no_calendar(&self) -> Problem {
+        let (wrong, line) = match self.lines.first() {
+            Some(&line) => ("a record without a calendar before it", line),
+            None => ("the text ends without a calendar", self.line + 1),
+        };
+        let expected = "a line \"calendar N days, ...\" or \"calendar absent\" before the records";
+        Fault::new(wrong, expected).at(line)
+    }
+
+    fn finish(mut self) -> Result<Lined, Vec<Problem>> {
         if let CalendarPart::Unsaid = self.calendar {
-            let fault = Fault::new(
-                "the text ends without a calendar",
-                "a line \"calendar N days, ...\" or \"calendar absent\" before the records",
-            );
-            self.problems.push(fault.at(self.line + 1));
+            self.problems.push(self.no_calendar());
         }
         if !self.problems.is_empty() {
             self.problems.sort_by_key(|problem| problem.line);
@@ -134,9 +160,12 @@ impl Reader {
             CalendarPart::Days(days) => Some(days),
             CalendarPart::Unsaid | CalendarPart::Bad | CalendarPart::Absent => None,
         };
-        Ok(Tape {
-            calendar,
-            records: self.records,
+        Ok(Lined {
+            tape: Tape {
+                calendar,
+                records: self.records,
+            },
+            lines: self.lines,
         })
     }
 }

@@ -17,17 +17,17 @@ pub(crate) const DAY: Field = Field {
     offset: 2,
     width: 2,
 };
-const REFERENCE: Field = Field {
+pub(crate) const REFERENCE: Field = Field {
     name: "reference",
     offset: 4,
     width: 4,
 };
-const PREMISE: Field = Field {
+pub(crate) const PREMISE: Field = Field {
     name: "premise",
     offset: 8,
     width: 8,
 };
-const RETAILER: Field = Field {
+pub(crate) const RETAILER: Field = Field {
     name: "retailer",
     offset: 16,
     width: 4,
@@ -71,6 +71,8 @@ pub(crate) enum Fields {
 /// One form of a record.
 #[derive(Debug, PartialEq, Eq)]
 pub(crate) struct Form {
+    /// What document 01 calls it.
+    pub name: &'static str,
     pub words: &'static [&'static str],
     pub kind: u8,
     pub detail: u8,
@@ -78,12 +80,14 @@ pub(crate) struct Form {
 }
 
 const fn form(
+    name: &'static str,
     words: &'static [&'static str],
     kind: u8,
     detail: u8,
     required: &'static [Field],
 ) -> Form {
     Form {
+        name,
         words,
         kind,
         detail,
@@ -101,13 +105,14 @@ const NAMED: &[Field] = &[PREMISE, REFERENCE];
 /// All forms, in document 01's order of record kinds. No two share kind and
 /// detail, and no form's words begin another's.
 pub(crate) const FORMS: &[Form] = &[
-    form(&["create"], 1, 0, &[PREMISE, DAY, RETAILER]),
-    form(&["retire"], 2, 0, &[PREMISE]),
-    form(&["move-in"], 3, 1, ORDER),
-    form(&["move-out"], 3, 2, ORDER),
+    form("create", &["create"], 1, 0, &[PREMISE, DAY, RETAILER]),
+    form("retire", &["retire"], 2, 0, &[PREMISE]),
+    form("move in", &["move-in"], 3, 1, ORDER),
+    form("move out", &["move-out"], 3, 2, ORDER),
     // A standard switch names no day: its requested day is the switch date. A
     // day can still be written, since a tape must be able to show it refused.
     Form {
+        name: "standard switch",
         words: &["standard-switch"],
         kind: 3,
         detail: 3,
@@ -116,16 +121,23 @@ pub(crate) const FORMS: &[Form] = &[
             optional: &[DAY],
         },
     },
-    form(&["self-selected-switch"], 3, 4, ORDER),
-    form(&["drop"], 3, 5, ORDER),
-    form(&["scheduled"], 4, 0, DATED),
-    form(&["permit"], 5, 0, NAMED),
-    form(&["unexecutable"], 6, 0, NAMED),
-    form(&["read"], 7, 0, DATED),
-    form(&["cancel"], 8, 0, &[PREMISE, REFERENCE, RETAILER]),
-    form(&["reply", "accept"], 9, 1, NAMED),
-    form(&["reply", "reject"], 9, 2, NAMED),
+    form(
+        "self-selected switch",
+        &["self-selected-switch"],
+        3,
+        4,
+        ORDER,
+    ),
+    form("mass transition drop", &["drop"], 3, 5, ORDER),
+    form("scheduled", &["scheduled"], 4, 0, DATED),
+    form("permit required", &["permit"], 5, 0, NAMED),
+    form("unexecutable", &["unexecutable"], 6, 0, NAMED),
+    form("meter read", &["read"], 7, 0, DATED),
+    form("cancel", &["cancel"], 8, 0, &[PREMISE, REFERENCE, RETAILER]),
+    form("cancel reply, accept", &["reply", "accept"], 9, 1, NAMED),
+    form("cancel reply, reject", &["reply", "reject"], 9, 2, NAMED),
     Form {
+        name: "day mark",
         words: &["day"],
         kind: 10,
         detail: 0,

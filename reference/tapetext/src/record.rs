@@ -1,6 +1,6 @@
 //! One record in words, each way.
 
-use crate::form::{Field, Fields, Form, FORMS, RECORD_BYTES};
+use crate::form::{Field, Fields, Form, FORMS, PREMISE, RECORD_BYTES, REFERENCE};
 use crate::line::{number, words};
 use crate::problem::Fault;
 use crate::raw;
@@ -37,14 +37,39 @@ pub(crate) fn print(record: &[u8]) -> String {
         .unwrap_or_else(|| raw::print(record))
 }
 
+/// A record as one speaks of it: what it is called, which premise and order it
+/// names or which day it marks, and those fields that are asked for. What no
+/// words can say is shown byte by byte.
+pub(crate) fn describe(record: &[u8], asked: &[Field]) -> String {
+    let line = print(record);
+    let Some(form) = form_of(record).filter(|_| !line.starts_with(raw::RAW)) else {
+        return line;
+    };
+    let (naming, fields): (&[Field], Vec<Field>) = match form.fields {
+        Fields::Bare(field) => (&[field], vec![field]),
+        Fields::Named { required, optional } => {
+            (&[PREMISE, REFERENCE], [required, optional].concat())
+        }
+    };
+    let mut said = form.name.to_string();
+    for field in fields {
+        if naming.contains(&field) || asked.contains(&field) {
+            said.push_str(&format!(", {} {}", field.name, field.get(record)));
+        }
+    }
+    said
+}
+
+/// The form that a record's kind and detail say, if it is of full length.
+fn form_of(record: &[u8]) -> Option<&'static Form> {
+    FORMS
+        .iter()
+        .find(|form| record.len() == RECORD_BYTES && record.starts_with(&[form.kind, form.detail]))
+}
+
 /// What the fields of a record say in words, whatever stands in its other bytes.
 fn in_words(record: &[u8]) -> Option<String> {
-    if record.len() != RECORD_BYTES {
-        return None;
-    }
-    let form = FORMS
-        .iter()
-        .find(|form| record.starts_with(&[form.kind, form.detail]))?;
+    let form = form_of(record)?;
     let mut said = form.words.join(" ");
     match form.fields {
         Fields::Bare(field) => said.push_str(&format!(" {}", field.get(record))),

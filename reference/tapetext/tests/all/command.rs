@@ -126,6 +126,93 @@ fn bytes_that_are_no_text_are_told_by_line() {
 }
 
 #[test]
+fn a_byte_order_mark_is_named() {
+    let folder = folder("mark");
+    let encode = ["encode", "-", "--tape", "t.bin"];
+    for (text, wrong) in [
+        (
+            b"\xef\xbb\xbfcalendar absent\n".as_slice(),
+            "-: line 1: a byte order mark stands before the text; expected UTF-8 without one\n",
+        ),
+        (
+            b"\xff\xfed\0a\0y\0".as_slice(),
+            "-: line 1: a byte order mark of UTF-16; expected UTF-8 without one\n",
+        ),
+        (
+            b"\xfe\xff\0d\0a\0y".as_slice(),
+            "-: line 1: a byte order mark of UTF-16; expected UTF-8 without one\n",
+        ),
+    ] {
+        let output = run(&folder, &encode, text);
+        assert_eq!(output.status.code(), Some(1));
+        assert_eq!(said(&output), wrong);
+        assert!(!folder.join("t.bin").exists());
+    }
+}
+
+#[test]
+fn a_tape_that_is_too_long_is_written_with_a_warning() {
+    let folder = folder("long");
+    let encode = ["encode", "-", "--tape", "t.bin"];
+    let text = |last: &str| format!("calendar absent\ndays 1..2729\n{last}\n");
+    // 2,730 records are played
+    let output = run(&folder, &encode, text("day 1").as_bytes());
+    assert!(output.status.success());
+    assert_eq!(said(&output), "");
+    for (last, warning, bytes) in [
+        (
+            "day 1\nday 2\nraw 0a",
+            "-: line 4: warning: 2 records from here on are left out; \
+             of 65545 bytes the tape program plays the first 65520\n",
+            65_545,
+        ),
+        (
+            "days 1..3",
+            "-: line 3: warning: 2 records from here on are left out; \
+             of 65568 bytes the tape program plays the first 65520\n",
+            65_568,
+        ),
+    ] {
+        let output = run(&folder, &encode, text(last).as_bytes());
+        assert!(output.status.success());
+        assert_eq!(said(&output), warning);
+        assert_eq!(fs::read(folder.join("t.bin")).unwrap().len(), bytes);
+    }
+}
+
+#[test]
+fn an_output_is_explained() {
+    let folder = folder("explain");
+    let text = "calendar absent\nday 1\nday 3\n";
+    fs::write(folder.join("t.txt"), text).unwrap();
+    let explain = ["explain", "t.txt", "--played", "-"];
+    let output = run(&folder, &explain, b"1 0 0\n2 15 0\nt 1 1\n");
+    assert!(output.status.success());
+    assert_eq!(said(&output), "");
+    let explained = "1 0 0\n2 15 0\n\
+                     line 3: day mark, day 3: the day is not the one after today\n\
+                     no flat is without a retailer\nt 1 1\n";
+    assert_eq!(output.stdout, explained.as_bytes());
+    let cut = run(&folder, &explain, b"1 0 0\n2 15 0\n");
+    assert_eq!(cut.status.code(), Some(1));
+    assert!(cut.stdout.is_empty());
+    assert_eq!(
+        said(&cut),
+        "-: it is not whole: its last line is no \"t\" line\n"
+    );
+}
+
+#[test]
+fn a_bad_text_explains_nothing() {
+    let folder = folder("explain-bad");
+    fs::write(folder.join("p.out"), "t 0 0\n").unwrap();
+    let output = run(&folder, &["explain", "-", "--played", "p.out"], b"day 1\n");
+    assert_eq!(output.status.code(), Some(1));
+    assert!(output.stdout.is_empty());
+    assert!(said(&output).starts_with("-: line 1: a record without a calendar before it; "));
+}
+
+#[test]
 fn a_file_that_cannot_be_read_is_told() {
     let folder = folder("unread");
     let output = run(&folder, &["decode", "--tape", "none.bin"], b"");

@@ -2,5 +2,6 @@
 
 mod command;
 mod document_01;
+mod explain;
 mod inverse;
 mod messages;

@@ -198,22 +198,44 @@ fn a_calendar_out_of_place() {
     assert_eq!(
         problems("calendar 10 days, all of kind 0\nday 1\nholiday 3\n"),
         ["line 3: \"holiday\" stands after a record; \
-          expected the calendar before the first record"]
+          expected the calendar before the first record (line 2)"]
     );
     assert_eq!(
         problems("day 1\ncalendar absent\n"),
         ["line 2: \"calendar\" stands after a record; \
-          expected the calendar before the first record"]
+          expected the calendar before the first record (line 1)"]
     );
 }
 
 #[test]
 fn no_calendar_at_all() {
-    assert_eq!(
-        problems("day 1\nday 2\n"),
-        ["line 3: the text ends without a calendar; \
-          expected a line \"calendar N days, ...\" or \"calendar absent\" before the records"]
-    );
+    let expected =
+        "expected a line \"calendar N days, ...\" or \"calendar absent\" before the records";
+    let early =
+        |line: usize| format!("line {line}: a record without a calendar before it; {expected}");
+    assert_eq!(problems("# no calendar\n\ndays 1..3\nday 4\n"), [early(3)]);
+    // a bad line is told by itself, and the record after it is the first
+    let said = problems("calender absent\nday 1\nday 2\n");
+    assert!(said[0].starts_with("line 1: \"calender absent\" is no record; "));
+    assert_eq!(said[1..], [early(2)]);
+    for (text, line) in [("", 1), ("# nothing\n", 2)] {
+        let ends = format!("line {line}: the text ends without a calendar; {expected}");
+        assert_eq!(problems(text), [ends]);
+    }
+}
+
+#[test]
+fn a_byte_order_mark() {
+    let mark = "line 1: a byte order mark stands before the text; expected UTF-8 without one";
+    assert_eq!(problems("\u{feff}calendar absent\nday 1\n"), [mark]);
+    assert_eq!(problems("\u{feff}# a comment\ncalendar absent\n"), [mark]);
+    // behind it the lines are read as they stand
+    let said = problems("\u{feff}calendar absent\nretire\n");
+    assert_eq!(said[0], mark);
+    assert!(said[1].starts_with("line 2: premise is missing; "));
+    // anywhere else it is a word like another
+    let said = problems("calendar absent\n\u{feff}day 1\n");
+    assert!(said[0].starts_with("line 2: \"\u{feff}day 1\" is no record; "));
 }
 
 #[test]

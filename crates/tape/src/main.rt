@@ -1,7 +1,7 @@
 // The tape program: reads the first 4,096 bytes of calendar.bin (absent counts as empty), plays the first 65,520 bytes of standard input
 // over a fresh book at day 0, and prints what the calls gave. What it prints is proved in `tape_player`; here it is read and written.
 ghost use mathlib.Core.Path.{_≡_};
-ghost use Rattle.tape.specs.Advice.{beginsAsText};
+ghost use Rattle.tape.specs.Advice.{isCharacter, beginsAsText};
 
 // Says on standard error what went wrong and what to do.
 fn complain(what: &[u8], advice: &[u8]) {
@@ -9,15 +9,21 @@ fn complain(what: &[u8], advice: &[u8]) {
     io::write_all(libc::STDERR_FILENO, advice);
 }
 
-// Whether a tape begins with a printable character, as a readable one does: no kind of record is such a byte.
+// Whether a byte is a character of a text.
+fn is_character(byte: u8) -> bool
+    ensures { λ r. ⌜ r ≡ isCharacter byte ⌝ }
+{
+    ((b' ' <= byte) & (byte <= b'~')) | ((b'\t' <= byte) & (byte <= b'\r'))
+}
+
+// Whether a tape begins as a readable one does, with four characters: the second of a record would be its detail.
 fn begins_as_text(tape: &[u8]) -> bool
     ensures { λ r. ⌜ r ≡ beginsAsText (now (tape .entry)) ⌝ }
 {
-    if tape.len() == 0 {
+    if tape.len() < 4 {
         return false;
     }
-    let first = tape[0];
-    (b' ' <= first) & (first <= b'~')
+    is_character(tape[0]) & is_character(tape[1]) & is_character(tape[2]) & is_character(tape[3])
 }
 
 // Says on standard error what a tape that was played may be lacking: a calendar, or its bytes.

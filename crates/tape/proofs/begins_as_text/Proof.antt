@@ -1,26 +1,53 @@
--- `tape::begins_as_text` meets its contract: an empty tape has no first byte. Assumes nothing.
-use Prim.Native.Nat.{ℕ}
+-- `tape::begins_as_text` meets its contract, by its length and what each of the four tests says. Assumes nothing.
+use Prim.Native.Nat.{ℕ, _<_, _≤_}
 use mathlib.Core.Path.{_≡_, refl}
-use mathlib.Core.Bool.{false}
-use mathlib.Core.List.{List, [], _∷_}
-use lib.ListN.{length}
+use mathlib.Core.Bool.{Bool, false, _&&_}
+use mathlib.Core.List.{List}
+use lib.ListN.{getD, length}
 use borrow.Author.Needs.{needs}
-use native.Mathlib.Omega.{arith}
-use Rattle.tape.specs.Advice.{beginsAsText}
+use borrow.Author.Tests.{lt-leb, le-leb}
+use Rattle.tape.specs.Advice.{isCharacter, beginsAsText}
 use Rattle.tape.proofs.begins_as_text.Statement.{statement}
 use Rattle.tape.proofs.begins_as_text.Tie as tie
 
-empty : (tape : List ℕ) → length tape ≡ 0 → false ≡ beginsAsText tape
-unfolding beginsAsText
-empty [] none = refl
-empty (first ∷ rest) none = absurd (omega (arith, none))
+module _ (tape : List ℕ) where
+  too-short : length tape < 4 → false ≡ beginsAsText tape
+  unfolding beginsAsText
+  too-short h = rw (lt-leb _ _ h) refl
+
+  by-four : (a b c d : Bool) → 4 ≤ length tape → a ≡ isCharacter (getD tape 0 0) → b ≡ isCharacter (getD tape 1 0) → c ≡ isCharacter (getD tape 2 0)
+      → d ≡ isCharacter (getD tape 3 0) → (a && b && c && d) ≡ beginsAsText tape
+  unfolding beginsAsText
+  by-four a b c d h p q r s = rw (le-leb _ _ h, p, q, r, s) refl
 
 returns : tie.Need-returns
-returns c = empty _ (c .if1 .taken)
+returns c = too-short _ (c .if1 .taken)
 
 returns-2 : tie.Need-returns-2
-unfolding beginsAsText
-returns-2 c = search needs
+returns-2 c =
+    by-four
+    _
+    _
+    _
+    _
+    _
+    (c .before .before .before .before .before .before .before .before .if1 .left)
+    (c .before .before .before .before .before .before .is-character .ensures)
+    (c .before .before .before .before .is-character2 .ensures)
+    (c .before .before .is-character3 .ensures)
+    (c .is-character4 .ensures)
 
 pub begins-as-text-spec : {M : Type 1} → statement M
-begins-as-text-spec = tie.close (tie.spec returns (λ c. search needs) returns-2)
+begins-as-text-spec =
+    tie.close
+    (tie.spec
+    returns
+    (λ c. search needs)
+    (λ c κs. search needs)
+    (λ c. search needs)
+    (λ c κs. search needs)
+    (λ c. search needs)
+    (λ c κs. search needs)
+    (λ c. search needs)
+    (λ c κs. search needs)
+    returns-2)

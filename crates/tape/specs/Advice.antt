@@ -9,6 +9,9 @@ use lib.ListN.{getD, length}
 abbrev pub isCharacter : ℕ → Bool
 isCharacter byte = leb 32 byte && leb byte 126 || leb 9 byte && leb byte 13
 
+abbrev pub characterAt : List ℕ → ℕ → Bool
+characterAt tape place = isCharacter (getD tape place 0)
+
 -- A tape begins as a text where its first four bytes are characters. No record begins so: the second byte would be its detail.
 unfoldable pub beginsAsText : List ℕ → Bool
-beginsAsText tape = leb 4 (length tape) && (isCharacter (getD tape 0 0) && isCharacter (getD tape 1 0) && isCharacter (getD tape 2 0) && isCharacter (getD tape 3 0))
+beginsAsText tape = leb 4 (length tape) && (characterAt tape 0 && characterAt tape 1 && characterAt tape 2 && characterAt tape 3)

@@ -3,10 +3,10 @@ use Prim.Native.Nat.{ℕ, _<_, _≤_}
 use mathlib.Core.Path.{_≡_, refl}
 use mathlib.Core.Bool.{Bool, false, _&&_}
 use mathlib.Core.List.{List}
-use lib.ListN.{getD, length}
+use lib.ListN.{length}
 use borrow.Author.Needs.{needs}
 use borrow.Author.Tests.{lt-leb, le-leb}
-use Rattle.tape.specs.Advice.{isCharacter, beginsAsText}
+use Rattle.tape.specs.Advice.{characterAt, beginsAsText}
 use Rattle.tape.proofs.begins_as_text.Statement.{statement}
 use Rattle.tape.proofs.begins_as_text.Tie as tie
 
@@ -15,8 +15,9 @@ module _ (tape : List ℕ) where
   unfolding beginsAsText
   too-short h = rw (lt-leb _ _ h) refl
 
-  by-four : (a b c d : Bool) → 4 ≤ length tape → a ≡ isCharacter (getD tape 0 0) → b ≡ isCharacter (getD tape 1 0) → c ≡ isCharacter (getD tape 2 0)
-      → d ≡ isCharacter (getD tape 3 0) → (a && b && c && d) ≡ beginsAsText tape
+  by-four : (a b c d : Bool)
+      → 4 ≤ length tape → a ≡ characterAt tape 0 → b ≡ characterAt tape 1 → c ≡ characterAt tape 2 → d ≡ characterAt tape 3
+      → (a && b && c && d) ≡ beginsAsText tape
   unfolding beginsAsText
   by-four a b c d h p q r s = rw (le-leb _ _ h, p, q, r, s) refl
 

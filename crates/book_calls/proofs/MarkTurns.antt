@@ -1,4 +1,4 @@
--- A turn of a day mark: the next file is marked, or stays since the mark does not touch it. Assumes nothing.
+-- A turn of a day mark: the next file is marked, or stays since the mark does not change it. Assumes nothing.
 use Prim.Native.Nat.{ℕ, _+_, _<_}
 use mathlib.Core.Path.{_≡_, sym, ap, subst, subst⁻¹, _∙_}
 use mathlib.Core.List.{List, [], _∷_, _++_, append-nil, map-append}

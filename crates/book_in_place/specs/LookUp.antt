@@ -67,7 +67,7 @@ Known bytes b past (Held at r) = KnownHeld bytes b past at r
 Known bytes b past (NextDay day) = KnownMark bytes b day
 Known bytes b past Other = Unit {0}
 
--- a look-up in a well-kept book tells no more than is so; proofs/LookUp.antt proves it
+-- a look-up in a well-kept book tells no more than is so; proofs/Known.antt proves it
 abbrev pub LookUpKnows : Type 0
 LookUpKnows =
     (bytes premises : List ℕ) (b : Book) (past : File) → bookKept b ≡ true → premises ≡ numbersOf b

@@ -1,5 +1,4 @@
 -- Document 01, "Clock": each order, oldest first, by its status before the mark.
--- When a review ends, by N as it has grown.
 use Prim.Native.Nat.{ℕ, _+_, min}
 use mathlib.Core.List.{List, [], _∷_}
 use mathlib.Core.Bool.{Bool, cond, _&&_, _||_}

@@ -1,4 +1,4 @@
--- Which case of `moves` holds, by the tests that led there; an order that does not move is left by the clock. Assumes nothing.
+-- Which case of `clockChanges` holds, by the tests that led there; an order that the clock does not change is left by it. Assumes nothing.
 use Prim.Native.Nat.{ℕ}
 use mathlib.Core.Path.{_≡_, refl, sym, ap, _∙_}
 use mathlib.Core.Bool.{Bool, true, false, cond, _&&_, _||_, false≢true}

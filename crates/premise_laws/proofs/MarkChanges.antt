@@ -1,5 +1,5 @@
--- An order that the clock changes is touched; a file without an order that the clock or the evaluation changes is left by a day mark.
--- Assumes nothing.
+-- An order that the clock changes is changed by the mark; a file without an order that the clock or the evaluation changes is left by a
+-- day mark. Assumes nothing.
 use Prim.Native.Nat.{ℕ, suc}
 use mathlib.Core.Path.{_≡_, refl, ap, ap₂, _∙_}
 use mathlib.Core.List.{List, [], _∷_}

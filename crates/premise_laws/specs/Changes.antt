@@ -1,8 +1,5 @@
--- Orders that the clock changes.
--- What an order that the evaluation changes says by itself, by the last day in window.
--- Orders that the evaluation changes, by the last day in window.
--- A search over orders by a test that goes by their places.
--- Files that a day mark leaves alone.
+-- What changes: which orders the clock and the evaluation change, the latter by the last day in window, and so which files a day mark
+-- leaves alone; proofs/MarkChanges.antt proves the law.
 use Prim.Native.Nat.{ℕ, suc}
 use mathlib.Core.Bool.{Bool, cond, _&&_, _||_, false}
 use lib.Dec.{eqb, leb}

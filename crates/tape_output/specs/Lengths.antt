@@ -1,5 +1,5 @@
--- How long a line can be, as statements; proofs/Lengths.antt proves them. With them a caller lends a fixed room instead of asking each
--- text's own length.
+-- How long a line can be, as statements; proofs/LineLengths.antt proves them. With them a caller lends a fixed room instead of asking
+-- each text's own length.
 use Prim.Native.Nat.{ℕ, _≤_, _<_}
 use lib.ListN.{length}
 use Rattle.records.specs.declared.Notice.{Notice}

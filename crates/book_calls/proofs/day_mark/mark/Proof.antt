@@ -1,5 +1,5 @@
 -- `mark` meets its contract. The loop's invariant: the files before the one reached are done, their notices sent. The measure
--- is the files left. A file that the mark does not touch stays by the premise's law `unchanged-stays`. Assumes nothing.
+-- is the files left. A file that the mark does not change stays by the premise's law `unchanged-stays`. Assumes nothing.
 use Prim.Native.Nat.{_≤_, _-_}
 use borrow.Author.Needs.{needs}
 use Rattle.book_calls.proofs.Marking.{Marking, mark-none, mark-length, mark-book, mark-wrote}

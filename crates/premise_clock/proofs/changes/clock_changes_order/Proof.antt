@@ -1,4 +1,4 @@
--- `clock_changes_order` meets its contract: the order's status picks the case of `moves`. Assumes nothing.
+-- `clock_changes_order` meets its contract: the order's status picks the case of `clockChanges`. Assumes nothing.
 use mathlib.Core.Path.{ap, _∙_}
 use mathlib.Core.Bool.{Bool, _||_}
 use lib.Dec.{eqb}

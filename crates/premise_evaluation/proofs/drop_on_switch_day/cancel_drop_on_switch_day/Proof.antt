@@ -1,5 +1,5 @@
 -- `cancel_drop_on_switch_day` meets its contract: whether the order is displaced, and whether there is a retailer, pick the case of
--- `dropped`. Assumes nothing.
+-- `dropOnSwitchDay`. Assumes nothing.
 use mathlib.Core.Path.{_≡_, sym, ap, _∙_}
 use mathlib.Core.List.{[], _∷_}
 use borrow.Author.Needs.{needs}

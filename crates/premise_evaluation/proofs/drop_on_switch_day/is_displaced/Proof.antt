@@ -1,4 +1,4 @@
--- `is_displaced` meets its contract: what the order says by itself picks the case of `displaced`. Assumes nothing.
+-- `is_displaced` meets its contract: what the order says by itself picks the case of `isDisplaced`. Assumes nothing.
 use mathlib.Core.Path.{_∙_}
 use borrow.Author.Needs.{needs}
 use Rattle.days.specs.Window.{upTo}

@@ -1,4 +1,5 @@
--- `tell_losing_retailer` meets its contract: whether the order is due, and who the retailer is, pick the case of `told`. Assumes nothing.
+-- `tell_losing_retailer` meets its contract: whether the order is due, and who the retailer is, pick the case of `lossNotice`. Assumes
+-- nothing.
 use mathlib.Core.Path.{_≡_, sym, ap, _∙_}
 use mathlib.Core.List.{[], _∷_}
 use borrow.Author.Needs.{needs}

@@ -1,4 +1,4 @@
--- `cancel_overtaken_permit` meets its contract: whether the order is overtaken picks the case of `lapsed`. Assumes nothing.
+-- `cancel_overtaken_permit` meets its contract: whether the order is overtaken picks the case of `permitOvertaken`. Assumes nothing.
 use mathlib.Core.Path.{sym, _∙_}
 use borrow.Author.Needs.{needs}
 use Rattle.premise.specs.Orders.{held}

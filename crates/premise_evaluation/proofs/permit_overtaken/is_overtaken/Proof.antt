@@ -1,4 +1,4 @@
--- `is_overtaken` meets its contract: what the order says by itself picks the case of `overtaken`. Assumes nothing.
+-- `is_overtaken` meets its contract: what the order says by itself picks the case of `isOvertaken`. Assumes nothing.
 use mathlib.Core.Path.{_∙_}
 use borrow.Author.Needs.{needs}
 use Rattle.premise.specs.Orders.{held}

@@ -1,4 +1,4 @@
--- `cancel_same_day_switch` meets its contract: whether the order gives way picks the case of `settled`. Assumes nothing.
+-- `cancel_same_day_switch` meets its contract: whether the order gives way picks the case of `sameDaySwitch`. Assumes nothing.
 use mathlib.Core.Path.{sym, _∙_}
 use borrow.Author.Needs.{needs}
 use Rattle.days.specs.Window.{upTo}

@@ -9,6 +9,7 @@ pub mod FilesTaken
 pub mod Keeps
 pub mod Kept
 pub mod Marks
+pub mod NothingFree
 pub mod OnHeld
 pub mod Row6
 pub mod Rows

@@ -117,8 +117,8 @@ CallNotHeld =
 abbrev pub AnsweredFull : Type 0
 AnsweredFull =
     (calendar : List ℕ) (b : Book) (bytes lent : List ℕ)
-    → bookKept b ≡ true → noticeBytes ≤ length lent
-    → (number (call calendar b bytes lent .answer) ≡ 6) ↔ (meetsRow6 b (reading bytes) ≡ true)
+    → bookKept b ≡ true
+    → noticeBytes ≤ length lent → (number (call calendar b bytes lent .answer) ≡ 6) ↔ (meetsRow6 b (reading bytes) ≡ true)
 
 -- a day mark marks every file on the day after T, and gets 15 on any other
 abbrev pub CallOnMark : Type 0

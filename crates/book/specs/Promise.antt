@@ -12,3 +12,13 @@ pub record Promised (calendar : List ℕ) (b : Book) (bytes before : List ℕ) (
   pub answer : r .answer ≡ call calendar b bytes before .answer
   pub book : r .book ≡ call calendar b bytes before .book
   pub notices : Emits before after (r .sent) (call calendar b bytes before .notices)
+
+-- Nothing is free: two replies that are promised for one call are the same, and so are the two buffers.
+pub record Same (r s : Reply) (after later : List ℕ) : Type 0 where
+  pub reply : r ≡ s
+  pub bytes : after ≡ later
+
+abbrev pub NothingFree : Type 0
+NothingFree =
+    (calendar : List ℕ) (b : Book) (bytes before : List ℕ) (r s : Reply) (after later : List ℕ)
+    → Promised calendar b bytes before r after → Promised calendar b bytes before s later → Same r s after later

@@ -1,0 +1,9 @@
+pub mod Turned
+pub mod Places
+pub mod Turns
+pub mod Zeros
+pub mod LastBytes
+pub mod Tapes
+pub mod Ways
+pub mod Writing
+pub mod Answered

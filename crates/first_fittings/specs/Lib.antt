@@ -1,0 +1,5 @@
+pub mod Layout
+pub mod Answers
+pub mod Conversions
+pub mod ThereAndBack
+pub mod Sample

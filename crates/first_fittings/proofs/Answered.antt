@@ -19,13 +19,13 @@ use Rattle.first_fittings.proofs.Ways.{Into, converted-length}
 
 module _ (way : Way) (tape before : List ℕ) where
   -- the three tests, in their order
-  answer-by : {whole room used : Bool}
+  pub answer-by : {whole room used : Bool}
       → not (eqb (length tape % way .size) 0) ≡ whole → ltb (length before) (length (converted way tape)) ≡ room → anyOf (way .barred) (recordsOf (way .size) tape) ≡ used
       → answer way tape before ≡ firstRow (row NotWhole whole ∷ row ShortBuffer room ∷ row LastBytesUsed used ∷ [])
   unfolding answer rows
   answer-by e f g = rw (e, f, g)
 
-  given-by : {a : Answer} → answer way tape before ≡ a → given way tape before ≡ cond (eqb (number a) 0) (converted way tape) []
+  pub given-by : {a : Answer} → answer way tape before ≡ a → given way tape before ≡ cond (eqb (number a) 0) (converted way tape) []
   unfolding given
   given-by f = ap (λ (a : Answer). cond (eqb (number a) 0) (converted way tape) []) f
 

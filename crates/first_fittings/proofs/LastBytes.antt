@@ -25,11 +25,13 @@ or-four false false false false = refl
 module _ (bytes : List ℕ) (e : length bytes ≡ ourLength) where
   last-four : drop 20 bytes ≡ getD bytes 20 0 ∷ getD bytes 21 0 ∷ getD bytes 22 0 ∷ getD bytes 23 0 ∷ []
   last-four =
-      rw (drop-first 0 bytes 20 (omega arith),
-      drop-first 0 bytes 21 (omega arith),
-      drop-first 0 bytes 22 (omega arith),
-      drop-first 0 bytes 23 (omega arith),
-      drop-none bytes 24 (omega arith))
+      rw (
+        drop-first 0 bytes 20 (omega arith),
+        drop-first 0 bytes 21 (omega arith),
+        drop-first 0 bytes 22 (omega arith),
+        drop-first 0 bytes 23 (omega arith),
+        drop-none bytes 24 (omega arith),
+      )
 
   pub four-tested : (used (getD bytes 20 0) || used (getD bytes 21 0) || used (getD bytes 22 0) || used (getD bytes 23 0)) ≡ lastBytesUsed bytes
   four-tested =

@@ -7,3 +7,6 @@ pub mod Tapes
 pub mod Ways
 pub mod Writing
 pub mod Answered
+pub mod ThereAndBack
+pub mod LosesNothing
+pub mod Sample

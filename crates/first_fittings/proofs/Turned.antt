@@ -1,12 +1,12 @@
--- Bytes turned field by field: as many as before, and turned again the bytes. Assumes nothing.
-use Prim.Native.Nat.{ℕ, _+_, _≤_}
-use mathlib.Core.Path.{_≡_, refl, ap₂, _∙_}
-use mathlib.Core.List.{List, [], _∷_, _++_, reverse, reverse-reverse}
+-- Bytes turned field by field: as many as before, the same numbers high byte first, and turned again the bytes. Assumes nothing.
+use Prim.Native.Nat.{ℕ, _+_, _*_, _≤_}
+use mathlib.Core.Path.{_≡_, refl, ap, ap₂, _∙_}
+use mathlib.Core.List.{List, [], _∷_, _++_, reverse, reverse-cons, reverse-reverse}
 use native.Mathlib.Omega.{arith}
 use lib.ListN.{length, take, drop, length-append, length-drop, length-reverse, take-append-drop}
 use lib.Seq.{length-take-le, take-at, drop-at}
-use Rattle.first_fittings.specs.Layout.{oldLength, widths, total, turned, turnedRecord}
-use Rattle.first_fittings.specs.ThereAndBack.{TurnedTwice}
+use Rattle.first_fittings.specs.Layout.{oldLength, widths, total, turned, lowFirst, highFrom, highFirst, numbers, turnedRecord}
+use Rattle.first_fittings.specs.ThereAndBack.{TurnedTwice, SameNumbers}
 
 -- a first field and the others
 module _ (width : ℕ) (others bytes : List ℕ) (e : length bytes ≡ width + total others) where
@@ -32,6 +32,25 @@ turned-twice (width ∷ others) bytes e =
     ap₂ (λ (a b : List ℕ). reverse a ++ turned others b) (take-at first rest width k) (drop-at first rest width k)
     ∙ ap₂ (λ (a b : List ℕ). a ++ b) (reverse-reverse (take width bytes)) (turned-twice others (drop width bytes) (others-length width others bytes e))
     ∙ take-append-drop width bytes
+
+-- ---- the numbers
+high-more : (n : ℕ) (bytes : List ℕ) (byte : ℕ) → highFrom n (bytes ++ (byte ∷ [])) ≡ 256 * highFrom n bytes + byte
+high-more n [] byte = refl
+high-more n (first ∷ bytes) byte = high-more (256 * n + first) bytes byte
+
+high-turned : (bytes : List ℕ) → highFirst (reverse bytes) ≡ lowFirst bytes
+high-turned [] = refl
+high-turned (byte ∷ bytes) = ap highFirst (reverse-cons byte bytes) ∙ high-more 0 (reverse bytes) byte ∙ omega (arith, high-turned bytes)
+
+pub same-numbers : SameNumbers
+same-numbers [] bytes e = refl
+same-numbers (width ∷ others) bytes e =
+    let first = reverse (take width bytes) in
+    let rest = turned others (drop width bytes) in
+    let k = first-length width others bytes e in
+    ap₂ (λ (n : ℕ) (ns : List ℕ). n ∷ ns)
+    (ap highFirst (take-at first rest width k) ∙ high-turned (take width bytes))
+    (ap (numbers highFirst others) (drop-at first rest width k) ∙ same-numbers others (drop width bytes) (others-length width others bytes e))
 
 pub length-record : (bytes : List ℕ) → oldLength ≤ length bytes → length (turnedRecord bytes) ≡ oldLength
 unfolding turnedRecord

@@ -3,8 +3,8 @@ use Prim.Native.Nat.{ℕ, _+_, _≤_, _<_}
 use mathlib.Core.Path.{_≡_, refl, sym, ap, _∙_}
 use mathlib.Core.List.{List, _++_}
 use native.Mathlib.Omega.{arith}
-use lib.ListN.{length, take, drop, getD, set, length-append, length-set, List·getD-append}
-use lib.Seq.{length-take-le, drop-at}
+use lib.ListN.{length, drop, getD, set, length-append, length-set, List·getD-append}
+use lib.Seq.{drop-at}
 use Rattle.lists.proofs.Over.{over, over-start, over-set, over-end}
 use Rattle.first_fittings.specs.Layout.{oldLength, turnedRecord}
 use Rattle.first_fittings.proofs.Turned.{length-record}

@@ -1,12 +1,11 @@
 -- What is known of each way: how long what a record becomes is, and with it the whole converted tape. Assumes nothing.
-use Prim.Native.Nat.{ℕ, _*_, _/_, _≤_, _<_}
+use Prim.Native.Nat.{ℕ, _*_, _/_, _≤_}
 use mathlib.Core.Path.{_≡_, ap, _∙_}
 use mathlib.Core.List.{List, [], _∷_, map}
 use native.Mathlib.Nat.{mul-div-le}
 use native.Mathlib.Omega.{arith}
 use lib.ListN.{length, length-append, length-map, replicate}
-use Rattle.lists.specs.Search.{Each}
-use Rattle.first_fittings.specs.Layout.{oldLength, ourLength, turnedRecord, cut, recordsOf, joined}
+use Rattle.first_fittings.specs.Layout.{oldLength, ourLength, turnedRecord, cut, joined}
 use Rattle.first_fittings.specs.Conversions.{Way, to24, to20, converted}
 use Rattle.first_fittings.proofs.Turned.{length-record}
 use Rattle.first_fittings.proofs.Tapes.{Sized, cut-sized, cut-length, joined-length}

@@ -1,5 +1,5 @@
 -- Document 02, change 9: the first fittings' records of 20 bytes and ours of 24.
-use Prim.Native.Nat.{ℕ, zero, suc, _+_, _/_}
+use Prim.Native.Nat.{ℕ, zero, suc, _+_, _*_, _/_}
 use mathlib.Core.List.{List, [], _∷_, _++_, reverse}
 use lib.ListN.{length, take, drop}
 
@@ -23,6 +23,23 @@ total (width ∷ others) = width + total others
 abbrev pub turned : List ℕ → List ℕ → List ℕ
 turned [] bytes = []
 turned (width ∷ others) bytes = reverse (take width bytes) ++ turned others (drop width bytes)
+
+-- the number that a field's bytes give, low byte first as with us, and high byte first as with the first fittings
+abbrev pub lowFirst : List ℕ → ℕ
+lowFirst [] = 0
+lowFirst (byte ∷ bytes) = byte + 256 * lowFirst bytes
+
+abbrev pub highFrom : ℕ → List ℕ → ℕ
+highFrom n [] = n
+highFrom n (byte ∷ bytes) = highFrom (256 * n + byte) bytes
+
+abbrev pub highFirst : List ℕ → ℕ
+highFirst bytes = highFrom 0 bytes
+
+-- the numbers of all fields
+abbrev pub numbers : (List ℕ → ℕ) → List ℕ → List ℕ → List ℕ
+numbers read [] bytes = []
+numbers read (width ∷ others) bytes = read (take width bytes) ∷ numbers read others (drop width bytes)
 
 -- "our bytes 0 to 19", each field turned: what a record's other form has of it
 unfoldable pub turnedRecord : List ℕ → List ℕ

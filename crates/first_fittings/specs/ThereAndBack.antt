@@ -7,13 +7,17 @@ use mathlib.Core.Bool.{cond}
 use lib.Dec.{ltb}
 use lib.ListN.{length, take}
 use Rattle.first_fittings.specs.declared.Conversion.{Conversion}
-use Rattle.first_fittings.specs.Layout.{total, turned}
+use Rattle.first_fittings.specs.Layout.{total, turned, lowFirst, highFirst, numbers}
 use Rattle.first_fittings.specs.Answers.{number}
 use Rattle.first_fittings.specs.Conversions.{Way, to24, to20, Promised}
 
 -- The law below both ways, for any fields: bytes turned field by field and turned again are the bytes.
 abbrev pub TurnedTwice : Type 0
 TurnedTwice = (widths bytes : List ℕ) → length bytes ≡ total widths → turned widths (turned widths bytes) ≡ bytes
+
+-- Turned bytes are the same numbers, high byte first.
+abbrev pub SameNumbers : Type 0
+SameNumbers = (widths bytes : List ℕ) → length bytes ≡ total widths → numbers highFirst widths (turned widths bytes) ≡ numbers lowFirst widths bytes
 
 -- a call that was made: the buffer that it was lent, what it returned, and the buffer on return
 pub record Made : Type 0 where

@@ -33,7 +33,26 @@ pub const OUR_LENGTH: usize = 24;
 
 // Where each byte of a record comes from when its fields are turned; turned again they stand as before, so that it serves both ways.
 const PLACES: [usize; 20] = [
-    0, 1, 3, 2, 7, 6, 5, 4, 15, 14, 13, 12, 11, 10, 9, 8, 19, 18, 17, 16,
+    0,
+    1,
+    3,
+    2,
+    7,
+    6,
+    5,
+    4,
+    15,
+    14,
+    13,
+    12,
+    11,
+    10,
+    9,
+    8,
+    19,
+    18,
+    17,
+    16,
 ];
 
 // The number of an answer.

@@ -2,7 +2,6 @@
 -- The measure is the records left. Assumes nothing.
 use Prim.Native.Nat.{ℕ, _≤_, _-_}
 use mathlib.Core.Path.{_≡_, sym, ap, _∙_}
-use native.Mathlib.Omega.{arith}
 use borrow.Author.Needs.{needs}
 use Rattle.lists.specs.Search.{anyOf}
 use Rattle.lists.proofs.Find.{any-hit, any-next, any-end}
@@ -11,9 +10,6 @@ use Rattle.first_fittings.specs.Conversions.{lastBytesUsed}
 use Rattle.first_fittings.proofs.Tapes.{left, left-all, left-first, left-none}
 use Rattle.first_fittings.proofs.any_last_bytes_used.Statement.{statement}
 use Rattle.first_fittings.proofs.any_last_bytes_used.Tie as tie
-use Rattle.first_fittings.proofs.any_last_bytes_used.Reads as reads
-use Rattle.first_fittings.proofs.any_last_bytes_used.Lts as lts
-use Rattle.first_fittings.proofs.last_bytes_used.Reads as last-bytes-used-reads
 
 abbrev Inv-loop : tie.InvT-loop
 Inv-loop input count i₀ i = (i ≤ count) × (anyOf lastBytesUsed (left ourLength count i input) ≡ anyOf lastBytesUsed (recordsOf ourLength input))
@@ -21,59 +17,47 @@ Inv-loop input count i₀ i = (i ≤ count) × (anyOf lastBytesUsed (left ourLen
 abbrev μ-loop : tie.MeasureT-loop
 μ-loop input count i₀ i = count - i
 
--- src/lib.rt:120:5
 loop-holds : tie.Need-loop-holds Inv-loop μ-loop
 loop-holds c =
     let s = c .before in
     (search needs, ap (anyOf lastBytesUsed) (left-all ourLength (s .args .count) (s .args .input .now) ∙ ap (λ (n : ℕ). cut ourLength n (s .args .input .now)) (s .pre)))
 
--- src/lib.rt:121:18
 mul-at : tie.Need-mul-at Inv-loop μ-loop
 mul-at c = search needs
 
--- src/lib.rt:122:20
 add-stop : tie.Need-add-stop Inv-loop μ-loop
 add-stop c = search needs
 
--- src/lib.rt:123:28
 sub-last-bytes-used : tie.Need-sub-last-bytes-used Inv-loop μ-loop
 sub-last-bytes-used c = search needs
 
--- src/lib.rt:123:28
 part-last-bytes-used-start : tie.Need-part-last-bytes-used-start Inv-loop μ-loop
 part-last-bytes-used-start c = search needs
 
--- src/lib.rt:123:28
 part-last-bytes-used-end : tie.Need-part-last-bytes-used-end Inv-loop μ-loop
 part-last-bytes-used-end c = search needs
 
--- src/lib.rt:123:12
 last-bytes-used-requires : tie.Need-last-bytes-used-requires Inv-loop μ-loop
 last-bytes-used-requires c κs = search needs
 
--- src/lib.rt:124:13
 returns : tie.Need-returns Inv-loop μ-loop
 returns c =
     let l = c .before .before .before .before in
     let s = l .before .before in
     sym (any-hit lastBytesUsed (left-first ourLength (s .args .count) (s .args .input .now) (l .loop .i) (search needs)) (sym (c .before .last-bytes-used .ensures) ∙ c .if1 .taken)) ∙ l .loop .inv .1
 
--- src/lib.rt:126:9
 add-i : tie.Need-add-i Inv-loop μ-loop
 add-i c = search needs
 
--- src/lib.rt:120:5
 loop-less : tie.Need-loop-less Inv-loop μ-loop
 loop-less c = search needs
 
--- src/lib.rt:120:5
 loop-again : tie.Need-loop-again Inv-loop μ-loop
 loop-again c =
     let l = c .before .before .before .before in
     let s = l .before .before in
     (search needs, sym (any-next lastBytesUsed (left-first ourLength (s .args .count) (s .args .input .now) (l .loop .i) (search needs)) (sym (c .before .last-bytes-used .ensures) ∙ c .if1 .left)) ∙ l .loop .inv .1)
 
--- src/lib.rt:115:1
 returns-2 : tie.Need-returns-2 Inv-loop μ-loop
 returns-2 c =
     let l = c .before in

@@ -1,6 +1,5 @@
 -- `first_fittings::write_ours` meets its contract: the turned record, and four zeros behind it. Assumes nothing.
 use mathlib.Core.List.{[], _∷_}
-use native.Mathlib.Omega.{arith}
 use lib.Seq.{lt-length-sets}
 use borrow.Author.Needs.{needs}
 use Rattle.first_fittings.proofs.Zeros.{zeros-behind}

@@ -1,0 +1,21 @@
+-- Change 9's sample and a case for each answer: computed. Assumes nothing.
+use mathlib.Core.Path.{_≡_, refl}
+use mathlib.Core.Bool.{true}
+use Rattle.first_fittings.specs.Layout.{turnedRecord}
+use Rattle.first_fittings.specs.Answers.{number}
+use Rattle.first_fittings.specs.Conversions.{converted, rows, answer, given}
+use Rattle.first_fittings.specs.Sample.{SampleHolds, pieces, allHold}
+
+pub sample : SampleHolds
+unfolding turnedRecord number converted rows answer given
+sample =
+    record {
+      old = record { kept = record { answered = refl; count = refl; bytes = refl }; ok = refl; keptBack = record { answered = refl; count = refl; bytes = refl }; okBack = refl };
+      ours = record { kept = record { answered = refl; count = refl; bytes = refl }; ok = refl; keptBack = record { answered = refl; count = refl; bytes = refl }; okBack = refl };
+      oldNumbers = refl;
+      ourNumbers = refl;
+    }
+
+pub answers : allHold pieces ≡ true
+unfolding turnedRecord number converted rows answer given
+answers = refl

@@ -49,7 +49,8 @@ count first (suc n) = first ∷ count (suc first) n
 -- the bytes at them
 counted : (l : List ℕ) (first n : ℕ) → first + n ≤ length l → map (λ (i : ℕ). getD l i 0) (count first n) ≡ take n (drop first l)
 counted l first zero h = refl
-counted l first (suc n) h = rw (drop-cons l first 0 (omega arith)) (ap (λ (r : List ℕ). getD l first 0 ∷ r) (counted l (suc first) n (omega arith)))
+counted l first (suc n) h =
+    rw (drop-cons l first 0 (omega arith)) (ap (λ (r : List ℕ). getD l first 0 ∷ r) (counted l (suc first) n (omega arith)))
 
 -- the code's table
 abbrev pub places : List ℕ
@@ -74,7 +75,9 @@ turned-mapped bytes k =
 
 module _ (i : ℕ) (h : i < oldLength) where
   pub place-below : getD places i 0 < oldLength
-  place-below = ltb-true _ _ (each-at (λ (p : ℕ). ltb p oldLength ≡ true) places i 0 h (each-of-all (λ (p : ℕ). ltb p oldLength) places places-inside))
+  place-below =
+      ltb-true _ _
+      (each-at (λ (p : ℕ). ltb p oldLength ≡ true) places i 0 h (each-of-all (λ (p : ℕ). ltb p oldLength) places places-inside))
 
   pub turned-at : (bytes : List ℕ) → oldLength ≤ length bytes → getD (turnedRecord bytes) i 0 ≡ getD bytes (getD places i 0) 0
   turned-at bytes k = ap (λ (l : List ℕ). getD l i 0) (turned-mapped bytes k) ∙ getD-mapped (λ (p : ℕ). getD bytes p 0) places i 0 0 h

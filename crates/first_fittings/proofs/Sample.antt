@@ -10,8 +10,16 @@ pub sample : SampleHolds
 unfolding turnedRecord number converted rows answer given
 sample =
     record {
-      old = record { kept = record { answered = refl; count = refl; bytes = refl }; ok = refl; keptBack = record { answered = refl; count = refl; bytes = refl }; okBack = refl };
-      ours = record { kept = record { answered = refl; count = refl; bytes = refl }; ok = refl; keptBack = record { answered = refl; count = refl; bytes = refl }; okBack = refl };
+      old =
+          record {
+            there = record { promise = record { answered = refl; count = refl; bytes = refl }; unrefused = refl };
+            back = record { promise = record { answered = refl; count = refl; bytes = refl }; unrefused = refl };
+          };
+      ours =
+          record {
+            there = record { promise = record { answered = refl; count = refl; bytes = refl }; unrefused = refl };
+            back = record { promise = record { answered = refl; count = refl; bytes = refl }; unrefused = refl };
+          };
       oldNumbers = refl;
       ourNumbers = refl;
     }

@@ -40,8 +40,10 @@ module _ (size : ℕ) where
 
   pub cut-sized : (n : ℕ) (tape : List ℕ) → size * n ≤ length tape → Sized size (cut size n tape)
   cut-sized zero tape h = tt
-  cut-sized (suc n) tape h =
-      (length-take-le size tape (omega (arith, mul-suc size n)), cut-sized n (drop size tape) (omega (arith, mul-suc size n, length-drop size tape)))
+  cut-sized (suc n) tape h = (
+    length-take-le size tape (omega (arith, mul-suc size n)),
+    cut-sized n (drop size tape) (omega (arith, mul-suc size n, length-drop size tape)),
+  )
 
   pub cut-length : (n : ℕ) (tape : List ℕ) → length (cut size n tape) ≡ n
   cut-length zero tape = refl
@@ -83,7 +85,8 @@ module _ (size n : ℕ) (tape : List ℕ) where
       let same : size ≡ size * i + size - size * i = omega arith in
       let next : size * i + size ≡ size * (i + 1) = omega (arith, mul-suc size i, ap (λ (k : ℕ). size * k) (add-one i)) in
       ap (λ (k : ℕ). cut size k (drop (size * i) tape)) one
-      ∙ ap₂ (λ (a : ℕ) (b : List ℕ). take a (drop (size * i) tape) ∷ cut size (n - (i + 1)) b) same (drop-drop size (size * i) tape ∙ ap (λ (k : ℕ). drop k tape) next)
+      ∙ ap₂ (λ (a : ℕ) (b : List ℕ). take a (drop (size * i) tape) ∷ cut size (n - (i + 1)) b) same
+      (drop-drop size (size * i) tape ∙ ap (λ (k : ℕ). drop k tape) next)
 
   pub left-none : (i : ℕ) → n ≤ i → left size n i tape ≡ []
   left-none i h =

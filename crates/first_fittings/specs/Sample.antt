@@ -9,7 +9,7 @@ use Rattle.first_fittings.specs.declared.Answer.the-variants.{Converted}
 use Rattle.first_fittings.specs.Layout.{oldLength, widths, highFirst, lowFirst, numbers}
 use Rattle.first_fittings.specs.Answers.{number}
 use Rattle.first_fittings.specs.Conversions.{Way, to24, to20, answer, given}
-use Rattle.first_fittings.specs.ThereAndBack.{Made, Call, Accepted, wrote}
+use Rattle.first_fittings.specs.ThereAndBack.{Made, Accepted, wrote}
 
 -- ---- the sample
 -- A new order, kind 3: detail 4, day 258, F 16909060, P of eight different bytes, retailer 67305985; a read, kind 7.
@@ -35,11 +35,9 @@ abbrev pub toOld : Made
 toOld = record { lent = buffer 40; reply = record { answer = Converted; written = 40 }; after = oldTape }
 
 -- what is asked of two calls by the theorem
-pub record Shown (there back : Way) (tape : List ℕ) (first second : Made) : Type 0 where
-  pub kept : Call there tape first
-  pub ok : Accepted first
-  pub keptBack : Call back (wrote first) second
-  pub okBack : Accepted second
+pub record Shown (way other : Way) (tape : List ℕ) (first second : Made) : Type 0 where
+  pub there : Accepted way tape first
+  pub back : Accepted other (wrote first) second
 
 -- the sample's calls are such, either way
 pub record SampleHolds : Type 0 where
@@ -68,7 +66,9 @@ sameBytes (a ∷ others) [] = false
 sameBytes (a ∷ others) (b ∷ bs) = eqb a b && sameBytes others bs
 
 abbrev pub holds : Piece → Bool
-holds p = eqb (number (answer (p .way) (p .tape) (buffer (p .room)))) (p .answered) && sameBytes (given (p .way) (p .tape) (buffer (p .room))) (p .bytes)
+holds p =
+    eqb (number (answer (p .way) (p .tape) (buffer (p .room)))) (p .answered)
+    && sameBytes (given (p .way) (p .tape) (buffer (p .room))) (p .bytes)
 
 abbrev pub allHold : List Piece → Bool
 allHold [] = true

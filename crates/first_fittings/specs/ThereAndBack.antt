@@ -17,7 +17,9 @@ TurnedTwice = (widths bytes : List ℕ) → length bytes ≡ total widths → tu
 
 -- Turned bytes are the same numbers, high byte first.
 abbrev pub SameNumbers : Type 0
-SameNumbers = (widths bytes : List ℕ) → length bytes ≡ total widths → numbers highFirst widths (turned widths bytes) ≡ numbers lowFirst widths bytes
+SameNumbers =
+    (widths bytes : List ℕ) → length bytes ≡ total widths
+    → numbers highFirst widths (turned widths bytes) ≡ numbers lowFirst widths bytes
 
 -- a call that was made: the buffer that it was lent, what it returned, and the buffer on return
 pub record Made : Type 0 where
@@ -29,9 +31,10 @@ pub record Made : Type 0 where
 abbrev pub Call : Way → List ℕ → Made → Type 0
 Call way tape call = Promised way tape (call .lent) (call .reply) (call .after)
 
--- it was not refused
-abbrev pub Accepted : Made → Type 0
-Accepted call = number (call .reply .answer) ≡ 0
+-- it kept its promise and was not refused
+pub record Accepted (way : Way) (tape : List ℕ) (call : Made) : Type 0 where
+  pub promise : Call way tape call
+  pub unrefused : number (call .reply .answer) ≡ 0
 
 -- the bytes that it wrote
 abbrev pub wrote : Made → List ℕ
@@ -41,15 +44,15 @@ wrote call = take (call .reply .written) (call .after)
 abbrev pub GivesBack : Way → Way → Type 0
 GivesBack there back =
     (tape : List ℕ) (first second : Made)
-    → Call there tape first → Accepted first
-    → Call back (wrote first) second → Accepted second
+    → Accepted there tape first
+    → Accepted back (wrote first) second
     → wrote second ≡ tape
 
 -- The way back is refused for want of room only: with less room than the tape has bytes it gets 24, else 0.
 abbrev pub WantsRoomOnly : Way → Way → Type 0
 WantsRoomOnly there back =
     (tape : List ℕ) (first second : Made)
-    → Call there tape first → Accepted first
+    → Accepted there tape first
     → Call back (wrote first) second
     → number (second .reply .answer) ≡ cond (ltb (length (second .lent)) (length tape)) 24 0
 
@@ -61,8 +64,8 @@ pub record ThereAndBack (there back : Way) : Type 0 where
 abbrev pub KeepsApart : Way → Type 0
 KeepsApart way =
     (tape other : List ℕ) (first second : Made)
-    → Call way tape first → Accepted first
-    → Call way other second → Accepted second
+    → Accepted way tape first
+    → Accepted way other second
     → wrote first ≡ wrote second
     → tape ≡ other
 

@@ -4,7 +4,7 @@ use mathlib.Core.Path.{_≡_, ap, _∙_}
 use mathlib.Core.List.{List, [], _∷_, map}
 use native.Mathlib.Nat.{mul-div-le}
 use native.Mathlib.Omega.{arith}
-use lib.ListN.{length, length-append, length-map, replicate}
+use lib.ListN.{length, length-append, length-map}
 use Rattle.first_fittings.specs.Layout.{oldLength, ourLength, turnedRecord, cut, joined}
 use Rattle.first_fittings.specs.Conversions.{Way, to24, to20, converted}
 use Rattle.first_fittings.proofs.Turned.{length-record}
@@ -15,7 +15,7 @@ abbrev pub Into : Way → ℕ → Type 0
 Into way size = (bytes : List ℕ) → length bytes ≡ way .size → length (way .becomes bytes) ≡ size
 
 pub into-ours : Into to24 ourLength
-into-ours bytes e = length-append (turnedRecord bytes) (replicate 4 0) ∙ omega (arith, length-record bytes (omega (arith, e)))
+into-ours bytes e = length-append (turnedRecord bytes) _ ∙ omega (arith, length-record bytes (omega (arith, e)))
 
 pub into-old : Into to20 oldLength
 into-old bytes e = length-record bytes (omega (arith, e))

@@ -6,7 +6,7 @@ use mathlib.Core.Bool.{Bool, true, false, not, cond}
 use native.Mathlib.Nat.{mul-comm, div-lt-iff-lt-mul, le-div-iff-mul-le}
 use native.Mathlib.Omega.{arith}
 use lib.Dec.{eqb, ltb}
-use lib.ListN.{length, drop}
+use lib.ListN.{length, drop, length-append}
 use borrow.Author.Tests.{eq-eqb, ne-eqb, lt-ltb, le-ltb}
 use Rattle.lists.specs.Search.{anyOf}
 use Rattle.first_fittings.specs.declared.Conversion.{Conversion}
@@ -112,3 +112,9 @@ module _ (way : Way) (into : ℕ) (some : 0 < into) (long : Into way into) (tape
 pub none-barred : (rs : List (List ℕ)) → anyOf (to24 .barred) rs ≡ false
 none-barred [] = refl
 none-barred (r ∷ rs) = none-barred rs
+
+-- what was written stands within the buffer
+pub written-within : {way : Way} {tape before after : List ℕ} {r : Conversion} → Promised way tape before r after → r .written ≤ length after
+written-within {way} {tape} {before} p =
+    let made = given way tape before in
+    omega (arith, p .count, ap length (p .bytes), length-append made (drop (length made) before))

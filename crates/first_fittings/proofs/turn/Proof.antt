@@ -1,5 +1,5 @@
--- `first_fittings::turn` meets its contract. The loop's invariant: the bytes reached are those of the turned record, the others as they were.
--- The measure is the bytes left. Assumes nothing.
+-- `first_fittings::turn` meets its contract. The loop's invariant: the bytes reached are those of the turned record, the others as they
+-- were. The measure is the bytes left. Assumes nothing.
 use Prim.Native.Nat.{_-_}
 use native.Mathlib.Omega.{arith}
 use borrow.Author.Needs.{needs}
@@ -24,6 +24,13 @@ mul-place c = search needs
 array-read-place : tie.Need-array-read-place Inv-loop μ-loop
 array-read-place c = search needs
 
+loop-again : tie.Need-loop-again Inv-loop μ-loop
+loop-again c =
+    let l = c .before .before in
+    let a = l .before .args in
+    turning-more (a .bytes .now) (a .buffer .now) (l .before .pre .0) (l .before .pre .1)
+    (l .loop .buffer) (l .loop .i) (l .loop .inv) (omega arith)
+
 shared-slice-read-buffer : tie.Need-shared-slice-read-buffer Inv-loop μ-loop
 shared-slice-read-buffer c =
     let s = c .before .before .before in
@@ -38,12 +45,6 @@ add-i c = search needs
 loop-less : tie.Need-loop-less Inv-loop μ-loop
 loop-less c = search needs
 
-loop-again : tie.Need-loop-again Inv-loop μ-loop
-loop-again c =
-    let l = c .before .before in
-    let a = l .before .args in
-    turning-more (a .bytes .now) (a .buffer .now) (l .before .pre .0) (l .before .pre .1) (l .loop .buffer) (l .loop .i) (l .loop .inv) (omega arith)
-
 same-length : tie.Need-same-length Inv-loop μ-loop
 same-length c = search needs
 
@@ -51,7 +52,8 @@ returns : tie.Need-returns Inv-loop μ-loop
 returns c =
     let l = c .before in
     let a = l .before .args in
-    turning-end (a .bytes .now) (a .buffer .now) (l .before .pre .0) (l .before .pre .1) (l .loop .buffer) (l .loop .i) (l .loop .inv) (omega arith)
+    turning-end (a .bytes .now) (a .buffer .now) (l .before .pre .0) (l .before .pre .1)
+    (l .loop .buffer) (l .loop .i) (l .loop .inv) (omega arith)
 
 pub turn-spec : {M : Type 1} → statement M
 turn-spec =

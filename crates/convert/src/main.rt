@@ -6,6 +6,7 @@
 //
 // What is written is proved in `first_fittings`; here a tape is read and handed over. One that is refused has nothing on standard output, and
 // on standard error the answer's number and what to do.
+ghost use mathlib.Core.Path.{_≡_};
 ghost use Prim.Native.Nat.{_≤_};
 ghost use lib.ListN.{length};
 ghost use Rattle.convert.specs.Sizes.{mostIn, mostOut};
@@ -36,6 +37,19 @@ fn no_room(clear: bool) -> Room
     }
 }
 
+// A buffer for the longest tape, and one for what it is converted to. Each says its length alone, so that no proof counts its zeros off.
+fn room_for_tape() -> [u8; MOST_IN]
+    ensures { λ r. ⌜ mostIn ≡ length r ⌝ }
+{
+    [0; MOST_IN]
+}
+
+fn room_for_converted() -> [u8; MOST_OUT]
+    ensures { λ r. ⌜ mostOut ≡ length r ⌝ }
+{
+    [0; MOST_OUT]
+}
+
 // Says words on standard error.
 fn say(words: &[u8]) {
     io::write_all(libc::STDERR_FILENO, words);
@@ -61,7 +75,9 @@ fn explain(answer: Answer, bytes: usize, size: usize, room: usize, needed: usize
             say_number(room, b" bytes of room are fewer than the ");
             say_number(needed, b" of the converted tape; give more\n");
         }
-        _ => say(b"a record has a byte in 20 to 23 that is not zero, and 20 bytes have no place for it; set it to zero\n"),
+        _ => say(
+            b"a record has a byte in 20 to 23 that is not zero, and 20 bytes have no place for it; set it to zero\n",
+        ),
     }
 }
 
@@ -169,7 +185,9 @@ fn convert(size: usize, needed: usize, tape: &[u8], output: &mut [u8]) {
         Answer::Converted => {
             if !io::write_all(libc::STDOUT_FILENO, &output[0..written]) {
                 os::fail(b"convert: cannot write to standard output");
-                say(b"convert: the output is not whole; make room or give another place, and convert the tape again\n");
+                say(
+                    b"convert: the output is not whole; make room or give another place, and convert the tape again\n",
+                );
             }
         }
         _ => explain(answer, tape.len(), size, output.len(), needed),
@@ -181,7 +199,7 @@ fn convert_in(size: usize, room: Room, tape: &[u8])
     requires { ⌜ (length (now tape) ≤ mostIn) × (room .bytes ≤ mostOut) ⌝ }
 {
     let needed = needed_for(size, tape.len());
-    let mut output = [0u8; MOST_OUT];
+    let mut output = room_for_converted();
     let given = room.bytes;
     if room.given {
         convert(size, needed, tape, &mut output[0..given]);
@@ -194,17 +212,21 @@ fn convert_in(size: usize, room: Room, tape: &[u8])
 fn convert_input(size: usize, room: Room)
     requires { ⌜ room .bytes ≤ mostOut ⌝ }
 {
-    let mut tape = [0u8; MOST_IN];
+    let mut tape = room_for_tape();
     let count = io::read_full(libc::STDIN_FILENO, &mut tape);
     let mut next = [0u8; 1];
     let more = libc::read(libc::STDIN_FILENO, &mut next);
     if (more < 0) | ((0 < more) & (count < MOST_IN)) {
         os::fail(b"convert: cannot read the tape from standard input");
-        say(b"convert: nothing was converted; give a readable file or pipe, as in: convert to24 <OLD >NEW\n");
+        say(
+            b"convert: nothing was converted; give a readable file or pipe, as in: convert to24 <OLD >NEW\n",
+        );
         return;
     }
     if 0 < more {
-        say(b"convert: the tape has more than the 1048560 bytes that are taken; give it in parts of whole records\n");
+        say(
+            b"convert: the tape has more than the 1048560 bytes that are taken; give it in parts of whole records\n",
+        );
         return;
     }
     convert_in(size, room, &tape[0..count]);
@@ -213,12 +235,16 @@ fn convert_input(size: usize, room: Room)
 fn main() {
     let size = size_in();
     if size == 0 {
-        say(b"convert: the first word is neither to24 nor to20; give one of them, as in: convert to24 <OLD >NEW\n");
+        say(
+            b"convert: the first word is neither to24 nor to20; give one of them, as in: convert to24 <OLD >NEW\n",
+        );
         return;
     }
     let room = room_given();
     if !room.clear {
-        say(b"convert: the second word is no number of bytes up to 1258272; give one, or none, as in: convert to24 48 <OLD >NEW\n");
+        say(
+            b"convert: the second word is no number of bytes up to 1258272; give one, or none, as in: convert to24 48 <OLD >NEW\n",
+        );
         return;
     }
     convert_input(size, room);

@@ -72,9 +72,11 @@ fn turn(bytes: &[u8], buffer: &mut [u8])
     requires { ⌜ (oldLength ≤ length (now bytes)) × (oldLength ≤ length (now buffer)) ⌝ }
     ensures { λ _. ⌜ now (buffer .exit) ≡ turnedRecord (now (bytes .entry)) ++ drop oldLength (now (buffer .entry)) ⌝ }
 {
+    // once a record: a constant that is indexed is made anew at each use
+    let places = PLACES;
     let mut i: usize = 0;
     while i < OLD_LENGTH {
-        let place = PLACES[i];
+        let place = places[i];
         buffer[i] = bytes[place];
         i += 1;
     }

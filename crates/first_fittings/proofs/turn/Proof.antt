@@ -10,10 +10,10 @@ use Rattle.first_fittings.proofs.turn.Statement.{statement}
 use Rattle.first_fittings.proofs.turn.Tie as tie
 
 abbrev Inv-loop : tie.InvT-loop
-Inv-loop bytes buffer₀ i₀ buffer i = Turning bytes buffer₀ buffer i
+Inv-loop bytes buffer₀ places i₀ buffer i = Turning bytes buffer₀ buffer i
 
 abbrev μ-loop : tie.MeasureT-loop
-μ-loop bytes buffer₀ i₀ buffer i = oldLength - i
+μ-loop bytes buffer₀ places i₀ buffer i = oldLength - i
 
 loop-holds : tie.Need-loop-holds Inv-loop μ-loop
 loop-holds c = turning-start _ _

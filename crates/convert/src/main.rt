@@ -4,8 +4,8 @@
 //   convert to20 <OURS >OLD      the other way
 //   convert to24 ROOM <OLD       with ROOM bytes to write to, where else there are as many as are needed
 //
-// What is written is proved in `first_fittings`; here a tape is read and handed over. One that is refused has nothing on standard output, and
-// on standard error the answer's number and what to do.
+// What is written is proved in `first_fittings`; here a tape is read and handed over. One that is refused has nothing on standard output,
+// and on standard error the answer's number and what to do.
 ghost use mathlib.Core.Path.{_≡_};
 ghost use Prim.Native.Nat.{_≤_};
 ghost use lib.ListN.{length};
@@ -184,9 +184,8 @@ fn convert(size: usize, needed: usize, tape: &[u8], output: &mut [u8]) {
     match answer {
         Answer::Converted => {
             if !io::write_all(libc::STDOUT_FILENO, &output[0..written]) {
-                os::fail(b"convert: cannot write to standard output");
-                say(
-                    b"convert: the output is not whole; make room or give another place, and convert the tape again\n",
+                os::fail(
+                    b"convert: cannot write to standard output; what stands there is not whole: make room, and convert the tape again",
                 );
             }
         }
@@ -217,9 +216,8 @@ fn convert_input(size: usize, room: Room)
     let mut next = [0u8; 1];
     let more = libc::read(libc::STDIN_FILENO, &mut next);
     if (more < 0) | ((0 < more) & (count < MOST_IN)) {
-        os::fail(b"convert: cannot read the tape from standard input");
-        say(
-            b"convert: nothing was converted; give a readable file or pipe, as in: convert to24 <OLD >NEW\n",
+        os::fail(
+            b"convert: cannot read the tape from standard input; give a readable file or pipe",
         );
         return;
     }
@@ -243,7 +241,7 @@ fn main() {
     let room = room_given();
     if !room.clear {
         say(
-            b"convert: the second word is no number of bytes up to 1258272; give one, or none, as in: convert to24 48 <OLD >NEW\n",
+            b"convert: what follows the first word is not one number of bytes up to 1258272; give one, or nothing\n",
         );
         return;
     }

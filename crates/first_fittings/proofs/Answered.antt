@@ -114,7 +114,8 @@ none-barred [] = refl
 none-barred (r ∷ rs) = none-barred rs
 
 -- what was written stands within the buffer
-pub written-within : {way : Way} {tape before after : List ℕ} {r : Conversion} → Promised way tape before r after → r .written ≤ length after
+pub written-within : {way : Way} {tape before after : List ℕ} {r : Conversion}
+    → Promised way tape before r after → r .written ≤ length after
 written-within {way} {tape} {before} p =
     let made = given way tape before in
     omega (arith, p .count, ap length (p .bytes), length-append made (drop (length made) before))

@@ -33,6 +33,8 @@ module _ (bytes : List ℕ) (e : length bytes ≡ ourLength) where
         drop-none bytes 24 (omega arith),
       )
 
-  pub four-tested : (used (getD bytes 20 0) || used (getD bytes 21 0) || used (getD bytes 22 0) || used (getD bytes 23 0)) ≡ lastBytesUsed bytes
+  pub four-tested :
+      (used (getD bytes 20 0) || used (getD bytes 21 0) || used (getD bytes 22 0) || used (getD bytes 23 0)) ≡ lastBytesUsed bytes
   four-tested =
-      or-four (used (getD bytes 20 0)) (used (getD bytes 21 0)) (used (getD bytes 22 0)) (used (getD bytes 23 0)) ∙ sym (ap (anyOf used) last-four)
+      or-four (used (getD bytes 20 0)) (used (getD bytes 21 0)) (used (getD bytes 22 0)) (used (getD bytes 23 0))
+      ∙ sym (ap (anyOf used) last-four)

@@ -54,7 +54,9 @@ undoes-ours =
           λ bytes e h.
           let four : length (drop oldLength bytes) ≡ 4 = length-drop oldLength bytes ∙ omega (arith, e) in
           let zeros : replicate 4 0 ≡ drop oldLength bytes = sym (all-zero (drop oldLength bytes) h ∙ ap (λ (n : ℕ). replicate n 0) four) in
-          ap₂ (λ (a b : List ℕ). a ++ b) (ap turnedRecord (sym (append-nil (turnedRecord bytes))) ∙ record-twice bytes [] (omega (arith, e))) zeros
+          ap₂ (λ (a b : List ℕ). a ++ b)
+          (ap turnedRecord (sym (append-nil (turnedRecord bytes))) ∙ record-twice bytes [] (omega (arith, e)))
+          zeros
           ∙ take-append-drop oldLength bytes;
     }
 

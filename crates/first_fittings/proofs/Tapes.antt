@@ -79,7 +79,8 @@ module _ (size n : ℕ) (tape : List ℕ) where
       let e : n - 0 ≡ n = omega arith in
       ap₂ (λ (k at : ℕ). cut size k (drop at tape)) e (mul-zero size)
 
-  pub left-first : (i : ℕ) → i < n → left size n i tape ≡ take (size * i + size - size * i) (drop (size * i) tape) ∷ left size n (i + 1) tape
+  pub left-first : (i : ℕ) → i < n
+      → left size n i tape ≡ take (size * i + size - size * i) (drop (size * i) tape) ∷ left size n (i + 1) tape
   left-first i h =
       let one : n - i ≡ suc (n - (i + 1)) = omega arith in
       let same : size ≡ size * i + size - size * i = omega arith in

@@ -50,7 +50,8 @@ module _ (way : Way) (tape : List ℕ) (call : Made) (ok : Accepted way tape cal
   -- its tape is made of whole records
   whole-tape : length tape ≡ way .size * (length tape / way .size)
   whole-tape =
-      let none : length tape % way .size ≡ 0 = eqb-true (length tape % way .size) 0 (not-false (eqb (length tape % way .size) 0) (met .is-whole)) in
+      let none : length tape % way .size ≡ 0 =
+      eqb-true (length tape % way .size) 0 (not-false (eqb (length tape % way .size) 0) (met .is-whole)) in
       omega (arith, div-add-mod (length tape) (way .size), none)
 
   -- none of which is bad
@@ -169,7 +170,8 @@ module _ (there back : Way) (t : ThereAndBack there back) where
       let call : Made = outcome back (wrote first) lent in
       let kept : Call back (wrote first) call = record { answered = refl; count = refl; bytes = refl } in
       let enough : ltb (length lent) (length tape) ≡ false = le-ltb (length lent) (length tape) room in
-      t .tape tape first call ok (record { promise = kept; unrefused = t .room tape first call ok kept ∙ ap (λ (b : Bool). cond b 24 0) enough })
+      let zero : number (call .reply .answer) ≡ 0 = t .room tape first call ok kept ∙ ap (λ (b : Bool). cond b 24 0) enough in
+      t .tape tape first call ok (record { promise = kept; unrefused = zero })
 
   pub keeps-apart : KeepsApart there
   keeps-apart tape other first second ok ok₂ e =

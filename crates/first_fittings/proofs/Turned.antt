@@ -20,7 +20,8 @@ pub length-turned : (widths bytes : List ℕ) → length bytes ≡ total widths 
 length-turned [] bytes e = refl
 length-turned (width ∷ others) bytes e =
     length-append (reverse (take width bytes)) (turned others (drop width bytes))
-    ∙ ap₂ (λ (a b : ℕ). a + b) (first-length width others bytes e) (length-turned others (drop width bytes) (others-length width others bytes e))
+    ∙ ap₂ (λ (a b : ℕ). a + b) (first-length width others bytes e)
+    (length-turned others (drop width bytes) (others-length width others bytes e))
 
 pub turned-twice : TurnedTwice
 turned-twice [] [] e = refl
@@ -30,7 +31,8 @@ turned-twice (width ∷ others) bytes e =
     let rest = turned others (drop width bytes) in
     let k = first-length width others bytes e in
     ap₂ (λ (a b : List ℕ). reverse a ++ turned others b) (take-at first rest width k) (drop-at first rest width k)
-    ∙ ap₂ (λ (a b : List ℕ). a ++ b) (reverse-reverse (take width bytes)) (turned-twice others (drop width bytes) (others-length width others bytes e))
+    ∙ ap₂ (λ (a b : List ℕ). a ++ b) (reverse-reverse (take width bytes))
+    (turned-twice others (drop width bytes) (others-length width others bytes e))
     ∙ take-append-drop width bytes
 
 -- ---- the numbers
@@ -50,7 +52,8 @@ same-numbers (width ∷ others) bytes e =
     let k = first-length width others bytes e in
     ap₂ (λ (n : ℕ) (ns : List ℕ). n ∷ ns)
     (ap highFirst (take-at first rest width k) ∙ high-turned (take width bytes))
-    (ap (numbers highFirst others) (drop-at first rest width k) ∙ same-numbers others (drop width bytes) (others-length width others bytes e))
+    (ap (numbers highFirst others) (drop-at first rest width k)
+    ∙ same-numbers others (drop width bytes) (others-length width others bytes e))
 
 pub length-record : (bytes : List ℕ) → oldLength ≤ length bytes → length (turnedRecord bytes) ≡ oldLength
 unfolding turnedRecord

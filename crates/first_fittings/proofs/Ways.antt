@@ -26,7 +26,8 @@ module _ (way : Way) (into : ℕ) (long : Into way into) where
   becomes-sized (r ∷ rs) h = (long r (h .0), becomes-sized rs (h .1))
 
   -- of so many records from a tape's start on
-  pub part-length : (n : ℕ) (tape : List ℕ) → way .size * n ≤ length tape → length (joined (map (way .becomes) (cut (way .size) n tape))) ≡ into * n
+  pub part-length : (n : ℕ) (tape : List ℕ) → way .size * n ≤ length tape
+      → length (joined (map (way .becomes) (cut (way .size) n tape))) ≡ into * n
   part-length n tape h =
       let rs = cut (way .size) n tape in
       joined-length into (map (way .becomes) rs) (becomes-sized rs (cut-sized (way .size) n tape h))

@@ -35,7 +35,8 @@ module _ (now : List ℕ) (at : ℕ) where
 
   handed-all : (after : List ℕ) → handed now at after ≡ take at now ++ after
   handed-all after =
-      let none : drop (length now - at) (drop at now) ≡ [] = drop-of-length-le (drop at now) {i = length now - at} (omega (arith, length-drop at now)) in
+      let none : drop (length now - at) (drop at now) ≡ [] =
+      drop-of-length-le (drop at now) {i = length now - at} (omega (arith, length-drop at now)) in
       ap (λ (l : List ℕ). take at now ++ (after ++ l)) none ∙ ap (λ (l : List ℕ). take at now ++ l) (append-nil after)
 
 module _ (way : Way) (into : ℕ) (long : Into way into) (tape before : List ℕ) where
@@ -61,7 +62,8 @@ module _ (way : Way) (into : ℕ) (long : Into way into) (tape before : List ℕ
 
     -- what the next record becomes stands behind what is done, and the rest stays
     pub writing-more : (after : List ℕ) → i < length tape / way .size
-        → after ≡ way .becomes (take (way .size * i + way .size - way .size * i) (drop (way .size * i) tape)) ++ drop into (lent now (into * i))
+        → after ≡ way .becomes (take (way .size * i + way .size - way .size * i) (drop (way .size * i) tape))
+        ++ drop into (lent now (into * i))
         → Writing way into tape before (handed now (into * i) after) (i + 1)
     writing-more after h e =
         let same : way .size * i + way .size - way .size * i ≡ way .size = omega arith in
@@ -70,14 +72,16 @@ module _ (way : Way) (into : ℕ) (long : Into way into) (tape before : List ℕ
         let next : into * i + into ≡ into * (i + 1) = omega (arith, mul-suc into i, ap (λ (k : ℕ). into * k) (add-one i)) in
         let behind : after ≡ bytes ++ left =
         e
-        ∙ ap₂ (λ (k : ℕ) (l : List ℕ). way .becomes (take k (drop (way .size * i) tape)) ++ drop into l) same (lent-all now (into * i) ∙ rest)
+        ∙ ap₂ (λ (k : ℕ) (l : List ℕ). way .becomes (take k (drop (way .size * i) tape)) ++ drop into l) same
+        (lent-all now (into * i) ∙ rest)
         ∙ ap (λ (l : List ℕ). bytes ++ l) (drop-drop into (into * i) before ∙ ap (λ (k : ℕ). drop k before) next) in
         let all : handed now (into * i) after ≡ part way tape (i + 1) ++ left =
         handed-all now (into * i) after
         ∙ ap₂ (λ (a b : List ℕ). a ++ b) front behind
         ∙ sym (append-assoc (part way tape i) bytes left)
         ∙ ap (λ (l : List ℕ). l ++ left) more in
-        let fits : into * (i + 1) ≤ length before = omega (arith, mul-le-mul-left {m = i + 1} {n = length tape / way .size} into (omega arith)) in
+        let fits : into * (i + 1) ≤ length before =
+        omega (arith, mul-le-mul-left {m = i + 1} {n = length tape / way .size} into (omega arith)) in
         record {
           within = omega arith;
           long =

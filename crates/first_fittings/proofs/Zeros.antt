@@ -9,7 +9,8 @@ use Rattle.first_fittings.specs.Conversions.{to24}
 use Rattle.first_fittings.proofs.Turned.{length-record}
 
 pub zeros-behind : (bytes before after : List ℕ) → oldLength ≤ length bytes → ourLength ≤ length after
-    → after ≡ turnedRecord bytes ++ drop oldLength before → sets after oldLength (replicate 4 0) ≡ to24 .becomes bytes ++ drop ourLength before
+    → after ≡ turnedRecord bytes ++ drop oldLength before
+    → sets after oldLength (replicate 4 0) ≡ to24 .becomes bytes ++ drop ourLength before
 zeros-behind bytes before after long room e =
     let k = length-record bytes long in
     sets-eq (replicate 4 0) after oldLength room

@@ -40,7 +40,7 @@ pub record Accepted (way : Way) (tape : List ℕ) (call : Made) : Type 0 where
 abbrev pub wrote : Made → List ℕ
 wrote call = take (call .reply .written) (call .after)
 
--- One way and back gives the tape: any tape, any two buffers.
+-- One way and back gives the tape: any tape, any two buffers, any two results that were promised.
 abbrev pub GivesBack : Way → Way → Type 0
 GivesBack there back =
     (tape : List ℕ) (first second : Made)

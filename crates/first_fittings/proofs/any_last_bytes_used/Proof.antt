@@ -1,5 +1,5 @@
--- `first_fittings::any_last_bytes_used` meets its contract. The loop's invariant: a record from the one reached on is bad where one is at all.
--- The measure is the records left. Assumes nothing.
+-- `first_fittings::any_last_bytes_used` meets its contract. The loop's invariant: a record from the one reached on is bad where one is at
+-- all. The measure is the records left. Assumes nothing.
 use Prim.Native.Nat.{ℕ, _≤_, _-_}
 use mathlib.Core.Path.{_≡_, sym, ap, _∙_}
 use borrow.Author.Needs.{needs}
@@ -12,7 +12,8 @@ use Rattle.first_fittings.proofs.any_last_bytes_used.Statement.{stateme
 use Rattle.first_fittings.proofs.any_last_bytes_used.Tie as tie
 
 abbrev Inv-loop : tie.InvT-loop
-Inv-loop input count i₀ i = (i ≤ count) × (anyOf lastBytesUsed (left ourLength count i input) ≡ anyOf lastBytesUsed (recordsOf ourLength input))
+Inv-loop input count i₀ i =
+    (i ≤ count) × (anyOf lastBytesUsed (left ourLength count i input) ≡ anyOf lastBytesUsed (recordsOf ourLength input))
 
 abbrev μ-loop : tie.MeasureT-loop
 μ-loop input count i₀ i = count - i
@@ -20,7 +21,8 @@ abbrev μ-loop : tie.MeasureT-loop
 loop-holds : tie.Need-loop-holds Inv-loop μ-loop
 loop-holds c =
     let s = c .before in
-    (search needs, ap (anyOf lastBytesUsed) (left-all ourLength (s .args .count) (s .args .input .now) ∙ ap (λ (n : ℕ). cut ourLength n (s .args .input .now)) (s .pre)))
+    let tape = s .args .input .now in
+    (search needs, ap (anyOf lastBytesUsed) (left-all ourLength (s .args .count) tape ∙ ap (λ (n : ℕ). cut ourLength n tape) (s .pre)))
 
 mul-at : tie.Need-mul-at Inv-loop μ-loop
 mul-at c = search needs
@@ -44,7 +46,8 @@ returns : tie.Need-returns Inv-loop μ-loop
 returns c =
     let l = c .before .before .before .before in
     let s = l .before .before in
-    sym (any-hit lastBytesUsed (left-first ourLength (s .args .count) (s .args .input .now) (l .loop .i) (search needs)) (sym (c .before .last-bytes-used .ensures) ∙ c .if1 .taken)) ∙ l .loop .inv .1
+    let first = left-first ourLength (s .args .count) (s .args .input .now) (l .loop .i) (search needs) in
+    sym (any-hit lastBytesUsed first (sym (c .before .last-bytes-used .ensures) ∙ c .if1 .taken)) ∙ l .loop .inv .1
 
 add-i : tie.Need-add-i Inv-loop μ-loop
 add-i c = search needs
@@ -56,7 +59,8 @@ loop-again : tie.Need-loop-again Inv-loop μ-loop
 loop-again c =
     let l = c .before .before .before .before in
     let s = l .before .before in
-    (search needs, sym (any-next lastBytesUsed (left-first ourLength (s .args .count) (s .args .input .now) (l .loop .i) (search needs)) (sym (c .before .last-bytes-used .ensures) ∙ c .if1 .left)) ∙ l .loop .inv .1)
+    let first = left-first ourLength (s .args .count) (s .args .input .now) (l .loop .i) (search needs) in
+    (search needs, sym (any-next lastBytesUsed first (sym (c .before .last-bytes-used .ensures) ∙ c .if1 .left)) ∙ l .loop .inv .1)
 
 returns-2 : tie.Need-returns-2 Inv-loop μ-loop
 returns-2 c =

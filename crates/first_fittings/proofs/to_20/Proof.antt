@@ -19,7 +19,9 @@ returns c =
     let s = c .before .before .before .before in
     let tape = s .args .input .now in
     let lent = s .args .output .now in
-    refused to20 tape lent (c .refuse .result) (c .refuse .ensures) (not-whole to20 oldLength (omega arith) into-old tape lent (c .before .if1 .taken)) refl
+    refused to20 tape lent (c .refuse .result) (c .refuse .ensures)
+    (not-whole to20 oldLength (omega arith) into-old tape lent (c .before .if1 .taken))
+    refl
 
 refuse-requires-2 : tie.Need-refuse-requires-2
 refuse-requires-2 c κs = search needs
@@ -31,7 +33,9 @@ returns-2 c =
     let s = e .before .before .before in
     let tape = s .args .input .now in
     let lent = s .args .output .now in
-    refused to20 tape lent (c .refuse2 .result) (c .refuse2 .ensures) (too-short to20 oldLength (omega arith) into-old tape lent (e .if1 .left) (c .before .if2 .taken)) refl
+    refused to20 tape lent (c .refuse2 .result) (c .refuse2 .ensures)
+    (too-short to20 oldLength (omega arith) into-old tape lent (e .if1 .left) (c .before .if2 .taken))
+    refl
 
 any-last-bytes-used-requires : tie.Need-any-last-bytes-used-requires
 any-last-bytes-used-requires c κs = search needs
@@ -49,7 +53,8 @@ returns-3 c =
     let tape = s .args .input .now in
     let lent = s .args .output .now in
     refused to20 tape lent (c .refuse3 .result) (c .refuse3 .ensures)
-    (last-bytes to20 oldLength (omega arith) into-old tape lent (e .if1 .left) (room .if2 .left) (sym (t .any-last-bytes-used .ensures) ∙ c .before .if3 .taken))
+    (last-bytes to20 oldLength (omega arith) into-old tape lent (e .if1 .left) (room .if2 .left)
+    (sym (t .any-last-bytes-used .ensures) ∙ c .before .if3 .taken))
     refl
 
 write-all-old-requires : tie.Need-write-all-old-requires
@@ -72,7 +77,8 @@ returns-4 c =
     let tape = s .args .input .now in
     let lent = s .args .output .now in
     accepted to20 tape lent _ (w .write-all-old .last .1 .1 .0) refl
-    (converts to20 oldLength (omega arith) into-old tape lent (e .if1 .left) (room .if2 .left) (sym (t .any-last-bytes-used .ensures) ∙ kept .if3 .left))
+    (converts to20 oldLength (omega arith) into-old tape lent (e .if1 .left) (room .if2 .left)
+    (sym (t .any-last-bytes-used .ensures) ∙ kept .if3 .left))
     (sym (converted-length to20 oldLength into-old tape))
     (w .write-all-old .ensures)
 

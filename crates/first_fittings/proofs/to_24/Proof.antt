@@ -19,7 +19,9 @@ returns c =
     let s = c .before .before .before .before in
     let tape = s .args .input .now in
     let lent = s .args .output .now in
-    refused to24 tape lent (c .refuse .result) (c .refuse .ensures) (not-whole to24 ourLength (omega arith) into-ours tape lent (c .before .if1 .taken)) refl
+    refused to24 tape lent (c .refuse .result) (c .refuse .ensures)
+    (not-whole to24 ourLength (omega arith) into-ours tape lent (c .before .if1 .taken))
+    refl
 
 refuse-requires-2 : tie.Need-refuse-requires-2
 refuse-requires-2 c κs = search needs
@@ -31,7 +33,9 @@ returns-2 c =
     let s = e .before .before .before in
     let tape = s .args .input .now in
     let lent = s .args .output .now in
-    refused to24 tape lent (c .refuse2 .result) (c .refuse2 .ensures) (too-short to24 ourLength (omega arith) into-ours tape lent (e .if1 .left) (c .before .if2 .taken)) refl
+    refused to24 tape lent (c .refuse2 .result) (c .refuse2 .ensures)
+    (too-short to24 ourLength (omega arith) into-ours tape lent (e .if1 .left) (c .before .if2 .taken))
+    refl
 
 write-all-ours-requires : tie.Need-write-all-ours-requires
 write-all-ours-requires c κs = search needs

@@ -1,5 +1,5 @@
--- `first_fittings::write_all_old` meets its contract. The loop's invariant: the first fittings' records for those reached, the rest as it was. The measure is
--- the records left. Assumes nothing.
+-- `first_fittings::write_all_old` meets its contract. The loop's invariant: the first fittings' records for those reached, the rest as it
+-- was. The measure is the records left. Assumes nothing.
 use Prim.Native.Nat.{_-_}
 use borrow.Author.Needs.{needs}
 use native.Mathlib.Omega.{arith}
@@ -59,7 +59,8 @@ loop-again : tie.Need-loop-again Inv-loop μ-loop
 loop-again c =
     let l = c .before .before .before .before .before .before in
     let s = l .before .before .before in
-    writing-more to20 oldLength into-old (s .args .input .now) (s .args .output .now) (omega arith) (l .loop .output) (l .loop .i) (l .loop .inv)
+    writing-more to20 oldLength into-old (s .args .input .now) (s .args .output .now) (omega arith)
+    (l .loop .output) (l .loop .i) (l .loop .inv)
     (c .before .before .turn .last .1 .0)
     (omega arith)
     (c .before .before .turn .ensures)
@@ -71,7 +72,8 @@ returns : tie.Need-returns Inv-loop μ-loop
 returns c =
     let l = c .before in
     let s = l .before .before .before in
-    writing-end to20 oldLength into-old (s .args .input .now) (s .args .output .now) (omega arith) (l .loop .output) (l .loop .i) (l .loop .inv) (s .args .count) (omega arith) (omega arith)
+    writing-end to20 oldLength into-old (s .args .input .now) (s .args .output .now) (omega arith)
+    (l .loop .output) (l .loop .i) (l .loop .inv) (s .args .count) (omega arith) (omega arith)
 
 pub write-all-old-spec : {M : Type 1} → statement M
 write-all-old-spec =

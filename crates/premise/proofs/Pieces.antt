@@ -1,23 +1,144 @@
--- Document 01's set pieces hold: computed. Assumes nothing.
+-- Document 01's set pieces hold: computed, topic by topic, so that the error of a failed piece has room for its name. Assumes nothing.
 use mathlib.Core.Path.{_≡_, refl}
-use mathlib.Core.Bool.{true}
-use Rattle.days.specs.Days.{kindOfDay, isBusinessDay, switchDate}
-use Rattle.days.specs.Window.{businessDays, inWindow}
-use Rattle.premise.specs.Orders.{places}
-use Rattle.premise.specs.Steps.{requestedDay, makeRoom, ordered, taken, onScheduled, onPermit, onUnexecutable, onRead, supplied}
-use Rattle.premise.specs.Steps.{onCancel, onReply, onOrder, changed}
-use Rattle.premise.specs.Clock.{reviewed, permitAwaited, cancelAwaited, ticked}
-use Rattle.premise.specs.Evaluation.{contends, switchOfDay, givesWay, sameDaySwitch, isDisplaced, dropOnSwitchDay, isOvertaken}
-use Rattle.premise.specs.Evaluation.{permitOvertaken, isDue, lossNotice, evaluation}
-use Rattle.premise.specs.FirstIn.{refuses, standsInWay, notFirstIn}
-use Rattle.premise.specs.WellKept.{orderKept}
-use Rattle.premise.specs.Refusals.{number, premiseRows, orderRows}
-use Rattle.premise.specs.OnePremise.{marked, stepped, step}
-use Rattle.premise.specs.Pieces.{pieces, allHold}
+use mathlib.Core.List.{List, [], _∷_, _++_}
+use mathlib.Core.Bool.{Bool, true, false}
+use Rattle.premise.specs.Pieces.Forms.{Piece, holds, failing, failed}
+use Rattle.premise.specs.Pieces.Document.{limits, reviews, permits, switches, tape}
+use Rattle.premise.specs.Pieces.Records.{created, ordered, scheduledOrPermitted, unexecuteds, readings, cancels, evaluations}
+use Rattle.premise.specs.Pieces.Clock.{reviewsEnd, permitsEnd, cancelsEnd}
+use Rattle.premise.specs.Pieces.Evaluation.{sameDay, drops, overtaken, losing}
+use Rattle.premise.specs.Pieces.Refusals.{firstIn, statuses, premises, days, stacks}
+use Rattle.premise.specs.Pieces.Kept.{keptOrders, keptFiles, numbers}
+use Rattle.premise.specs.Pieces.{pieces}
 
-pub set-pieces : allHold pieces ≡ true
-unfolding kindOfDay isBusinessDay switchDate businessDays inWindow places requestedDay makeRoom ordered taken onScheduled onPermit
-    onUnexecutable onRead supplied onCancel onReply onOrder changed reviewed permitAwaited cancelAwaited ticked contends switchOfDay
-    givesWay sameDaySwitch isDisplaced dropOnSwitchDay isOvertaken permitOvertaken isDue lossNotice evaluation refuses standsInWay
-    notFirstIn orderKept number premiseRows orderRows marked stepped step
-set-pieces = refl
+-- none of some pieces fails
+record Hold (ps : List Piece) : Type 0 where
+  pub none : failed ps ≡ []
+
+more : (p : Piece) (ps qs : List Piece) (is : Bool) → failing is (p .name) (failed ps) ≡ [] → (failed ps ≡ [] → failed (ps ++ qs) ≡ [])
+    → failing is (p .name) (failed (ps ++ qs)) ≡ []
+more p ps qs true h both = both h
+more p ps qs false h both = cc
+
+both : (ps qs : List Piece) → failed ps ≡ [] → failed qs ≡ [] → failed (ps ++ qs) ≡ []
+unfolding failed
+both [] qs h k = k
+both (p ∷ ps) qs h k = more p ps qs (holds (p .case)) h (λ (rest : failed ps ≡ []). both ps qs rest k)
+
+infixl 20 _also_
+_also_ : {ps qs : List Piece} → Hold ps → Hold qs → Hold (ps ++ qs)
+_also_ {ps} {qs} h k = record { none = both ps qs (h .none) (k .none) }
+
+limits-hold : Hold limits
+unfolding failed limits
+limits-hold = record { none = refl }
+
+reviews-hold : Hold reviews
+unfolding failed reviews
+reviews-hold = record { none = refl }
+
+permits-hold : Hold permits
+unfolding failed permits
+permits-hold = record { none = refl }
+
+switches-hold : Hold switches
+unfolding failed switches
+switches-hold = record { none = refl }
+
+tape-hold : Hold tape
+unfolding failed tape
+tape-hold = record { none = refl }
+
+created-hold : Hold created
+unfolding failed created
+created-hold = record { none = refl }
+
+ordered-hold : Hold ordered
+unfolding failed ordered
+ordered-hold = record { none = refl }
+
+scheduledOrPermitted-hold : Hold scheduledOrPermitted
+unfolding failed scheduledOrPermitted
+scheduledOrPermitted-hold = record { none = refl }
+
+unexecuteds-hold : Hold unexecuteds
+unfolding failed unexecuteds
+unexecuteds-hold = record { none = refl }
+
+readings-hold : Hold readings
+unfolding failed readings
+readings-hold = record { none = refl }
+
+cancels-hold : Hold cancels
+unfolding failed cancels
+cancels-hold = record { none = refl }
+
+evaluations-hold : Hold evaluations
+unfolding failed evaluations
+evaluations-hold = record { none = refl }
+
+reviewsEnd-hold : Hold reviewsEnd
+unfolding failed reviewsEnd
+reviewsEnd-hold = record { none = refl }
+
+permitsEnd-hold : Hold permitsEnd
+unfolding failed permitsEnd
+permitsEnd-hold = record { none = refl }
+
+cancelsEnd-hold : Hold cancelsEnd
+unfolding failed cancelsEnd
+cancelsEnd-hold = record { none = refl }
+
+sameDay-hold : Hold sameDay
+unfolding failed sameDay
+sameDay-hold = record { none = refl }
+
+drops-hold : Hold drops
+unfolding failed drops
+drops-hold = record { none = refl }
+
+overtaken-hold : Hold overtaken
+unfolding failed overtaken
+overtaken-hold = record { none = refl }
+
+losing-hold : Hold losing
+unfolding failed losing
+losing-hold = record { none = refl }
+
+firstIn-hold : Hold firstIn
+unfolding failed firstIn
+firstIn-hold = record { none = refl }
+
+statuses-hold : Hold statuses
+unfolding failed statuses
+statuses-hold = record { none = refl }
+
+premises-hold : Hold premises
+unfolding failed premises
+premises-hold = record { none = refl }
+
+days-hold : Hold days
+unfolding failed days
+days-hold = record { none = refl }
+
+stacks-hold : Hold stacks
+unfolding failed stacks
+stacks-hold = record { none = refl }
+
+keptOrders-hold : Hold keptOrders
+unfolding failed keptOrders
+keptOrders-hold = record { none = refl }
+
+keptFiles-hold : Hold keptFiles
+unfolding failed keptFiles
+keptFiles-hold = record { none = refl }
+
+numbers-hold : Hold numbers
+unfolding failed numbers
+numbers-hold = record { none = refl }
+
+pub set-pieces : failed pieces ≡ []
+set-pieces = (limits-hold also reviews-hold also permits-hold also switches-hold also tape-hold also created-hold also ordered-hold also
+    scheduledOrPermitted-hold also unexecuteds-hold also readings-hold also cancels-hold also evaluations-hold also reviewsEnd-hold also
+    permitsEnd-hold also cancelsEnd-hold also sameDay-hold also drops-hold also overtaken-hold also losing-hold also firstIn-hold also
+    statuses-hold also premises-hold also days-hold also stacks-hold also keptOrders-hold also keptFiles-hold also numbers-hold) .none

@@ -13,4 +13,5 @@ pub mod NothingFree
 pub mod OnHeld
 pub mod Row6
 pub mod Rows
+pub mod RowsInOrder
 pub mod SameFiles

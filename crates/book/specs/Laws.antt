@@ -2,7 +2,7 @@
 use Prim.Native.Nat.{ℕ, _*_, _≤_, _<_}
 use mathlib.Core.Path.{_≡_}
 use mathlib.Core.Logic.{_↔_}
-use mathlib.Core.List.{List, _++_, map}
+use mathlib.Core.List.{List, [], _∷_, _++_, map}
 use mathlib.Core.Option.{none, some}
 use mathlib.Core.Bool.{true, false}
 use lib.ListN.{length, getD, set}
@@ -13,15 +13,16 @@ use Rattle.records.specs.declared.Reading.the-variants.{Malformed, Says}
 use Rattle.records.specs.Layout.{recordLength}
 use Rattle.records.specs.Records.{kindNewOrder, kindReply, kindDayMark, wellFormed, reading}
 use Rattle.premise.specs.declared.File.{File}
-use Rattle.premise.specs.declared.Answer.the-variants.{MalformedRecord, NoSuchPremise}
+use Rattle.premise.specs.declared.Answer.the-variants.{ShortBuffer, NotWellKept, MalformedRecord, NoSuchPremise}
 use Rattle.premise.specs.Steps.{is}
 use Rattle.premise.specs.Refusals.{number, needsPremise}
 use Rattle.premise.specs.OnePremise.{Given, givenOn}
 use Rattle.premise.specs.WellKept.{FileKept}
+use Rattle.premise.specs.Laws.{rowNumbers}
 use Rattle.premise_laws.specs.Laws.{KeptFor}
 use Rattle.book.specs.declared.Book.{Book}
 use Rattle.book.specs.Book.{mostFiles, filesOf, bookOf, freshBook, risesFrom, bookKept, fileFor}
-use Rattle.book.specs.Calls.{noticeBytes, meetsRow6, markedFiles, markedNotices, onPremise, refusal, call, onDayMark}
+use Rattle.book.specs.Calls.{noticeBytes, callRows, meetsRow6, markedFiles, markedNotices, onPremise, refusal, call, onDayMark}
 
 -- ---- well kept
 -- at most 64 files, and the places after them unused: what the functions on a book's places ask of it
@@ -66,6 +67,29 @@ StepAllFew =
 -- .. so that every call's go into the buffer that it is lent.
 abbrev pub CallFew : Type 0
 CallFew = (calendar : List ℕ) (b : Book) (bytes lent : List ℕ) → recordLength * length (call calendar b bytes lent .notices) ≤ length lent
+
+-- ---- the table of refusals
+-- its rows' numbers, in its order: 1 to 15 of a record, and 1 to 3 of malformed bytes, of which row 3 holds
+abbrev pub RowsOfRecord : Type 0
+RowsOfRecord =
+    (calendar : List ℕ) (b : Book) (bytes lent : List ℕ) (r : Record) → reading bytes ≡ Says r
+    → rowNumbers (callRows calendar b bytes lent) ≡ 1 ∷ 2 ∷ 3 ∷ 4 ∷ 5 ∷ 6 ∷ 7 ∷ 8 ∷ 9 ∷ 10 ∷ 11 ∷ 12 ∷ 13 ∷ 14 ∷ 15 ∷ []
+
+abbrev pub RowsOfMalformed : Type 0
+RowsOfMalformed =
+    (calendar : List ℕ) (b : Book) (bytes lent : List ℕ) → reading bytes ≡ Malformed
+    → rowNumbers (callRows calendar b bytes lent) ≡ 1 ∷ 2 ∷ 3 ∷ []
+
+-- 1 before 2: a buffer under 24,576 bytes gets 1, whatever the book and the bytes
+abbrev pub CallShort : Type 0
+CallShort =
+    (calendar : List ℕ) (b : Book) (bytes lent : List ℕ) → length lent < noticeBytes → call calendar b bytes lent ≡ refusal ShortBuffer b
+
+-- 2 before 3: with a longer one a book that is not well kept gets 2, whatever the bytes. (`CallMalformed`, below, says 3.)
+abbrev pub CallNotKept : Type 0
+CallNotKept =
+    (calendar : List ℕ) (b : Book) (bytes lent : List ℕ) → noticeBytes ≤ length lent → bookKept b ≡ false
+    → call calendar b bytes lent ≡ refusal NotWellKept b
 
 -- ---- a record on a premise that is held, by the place of its file
 -- a record of kinds 3 to 9, and a place that holds its premise's file; `past` is what a read past the last place would give, of which none
@@ -116,8 +140,7 @@ CallNotHeld =
 -- A call is answered 6 exactly where its record meets row 6.
 abbrev pub AnsweredFull : Type 0
 AnsweredFull =
-    (calendar : List ℕ) (b : Book) (bytes lent : List ℕ)
-    → bookKept b ≡ true
+    (calendar : List ℕ) (b : Book) (bytes lent : List ℕ) → bookKept b ≡ true
     → noticeBytes ≤ length lent → (number (call calendar b bytes lent .answer) ≡ 6) ↔ (meetsRow6 b (reading bytes) ≡ true)
 
 -- a day mark marks every file on the day after T, and gets 15 on any other

@@ -1,5 +1,5 @@
--- What the book's own table rests on: which answers have the numbers 0 and 6, that no row of the one-premise rules has 6, row 4 on a record
--- of a premise that is not held, and row 5 on a create of one that is. Assumes nothing.
+-- What the book's own table rests on: which answers have the numbers 0 and 6, the rows' numbers in their order, that no row of the
+-- one-premise rules has 6, row 4 on a record of a premise that is not held, and row 5 on a create of one that is. Assumes nothing.
 use Prim.Native.Nat.{ℕ}
 use mathlib.Core.Path.{_≡_, refl, sym, ap, _∙_}
 use mathlib.Core.List.{List, [], _∷_}
@@ -19,7 +19,8 @@ use Rattle.premise.specs.declared.Answer.the-variants.{Accepted, ShortBu
 use Rattle.premise.specs.declared.Answer.the-variants.{PremiseHeld, BookFull, OrderOpen, ReferenceHeld, DayOutOfRange, NoSwitchDate}
 use Rattle.premise.specs.declared.Answer.the-variants.{NotFirstIn, StackFull, NoSuchOrder, StatusNotTaken, NotNextDay}
 use Rattle.premise.specs.Refusals.{Row, number, firstRow, premiseRows, orderRows, rows}
-use Rattle.premise.specs.Laws.{AcceptedIsZero, FullIsSix, NoRow6, NeedsFile, CreateHeld}
+use Rattle.premise.specs.Laws.{AcceptedIsZero, FullIsSix, NoRow6, NeedsFile, CreateHeld, PremiseRowNumbers, OrderRowNumbers}
+use Rattle.premise.specs.Laws.{BookAnswers}
 
 -- ---- the numbers of the answers
 -- the answers in the order of their numbers, by which a number names its answer
@@ -53,6 +54,18 @@ same-number one other e = sym (named-back one) ∙ ap (λ (n : ℕ). getD answer
 pub accepted-is-zero : AcceptedIsZero
 unfolding number
 accepted-is-zero answer = (same-number answer Accepted, λ e. rw e)
+
+pub premise-row-numbers : PremiseRowNumbers
+unfolding number premiseRows
+premise-row-numbers file r = refl
+
+pub order-row-numbers : OrderRowNumbers
+unfolding number orderRows
+order-row-numbers calendar today os r = refl
+
+pub book-answers : BookAnswers
+unfolding number
+book-answers = refl
 
 pub full-is-six : FullIsSix
 unfolding number

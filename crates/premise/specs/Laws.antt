@@ -3,20 +3,22 @@
 use Prim.Native.Nat.{ℕ, _+_}
 use mathlib.Core.Path.{_≡_}
 use mathlib.Core.Logic.{_↔_}
-use mathlib.Core.List.{List, [], _++_}
+use mathlib.Core.List.{List, [], _∷_, _++_, map}
 use mathlib.Core.Option.{Option, none, some}
 use mathlib.Core.Bool.{true, false, cond}
 use lib.Dec.{eqb}
 use Rattle.lists.specs.Search.{anyOf}
 use Rattle.records.specs.declared.Record.{Record}
 use Rattle.records.specs.Records.{kindCreate, kindRetire, kindDayMark}
+use Rattle.premise.specs.declared.Order.{Order}
 use Rattle.premise.specs.declared.File.{File}
 use Rattle.premise.specs.declared.Answer.{Answer}
-use Rattle.premise.specs.declared.Answer.the-variants.{Accepted, NoSuchPremise, PremiseHeld, BookFull, NotNextDay}
+use Rattle.premise.specs.declared.Answer.the-variants.{Accepted, ShortBuffer, NotWellKept, MalformedRecord, NoSuchPremise}
+use Rattle.premise.specs.declared.Answer.the-variants.{PremiseHeld, BookFull, NotNextDay}
 use Rattle.premise.specs.Orders.{blankFile}
 use Rattle.premise.specs.Steps.{is}
 use Rattle.premise.specs.WellKept.{fileKept, fileBlank, FileKept}
-use Rattle.premise.specs.Refusals.{Row, number, needsPremise, premiseRows, rows, firstRow, isHeld}
+use Rattle.premise.specs.Refusals.{Row, number, needsPremise, premiseRows, orderRows, rows, firstRow, isHeld}
 use Rattle.premise.specs.OnePremise.{State, Given, accepted, refused, leaving, marked, step}
 
 -- ---- well kept
@@ -58,6 +60,22 @@ RefusalIs =
 -- of all answers only acceptance has the number 0
 abbrev pub AcceptedIsZero : Type 0
 AcceptedIsZero = (answer : Answer) → (number answer ≡ 0) ↔ (answer ≡ Accepted)
+
+-- The rows' numbers in the table's order: those of the one-premise rules ..
+abbrev pub rowNumbers : List Row → List ℕ
+rowNumbers rs = map (λ (x : Row). number (x .answer)) rs
+
+abbrev pub PremiseRowNumbers : Type 0
+PremiseRowNumbers = (file : Option File) (r : Record) → rowNumbers (premiseRows file r) ≡ 4 ∷ 5 ∷ []
+
+abbrev pub OrderRowNumbers : Type 0
+OrderRowNumbers =
+    (calendar : List ℕ) (today : ℕ) (os : List Order) (r : Record)
+    → rowNumbers (orderRows calendar today os r) ≡ 7 ∷ 8 ∷ 9 ∷ 10 ∷ 11 ∷ 12 ∷ 13 ∷ 14 ∷ 15 ∷ []
+
+-- .. and of the answers that the book's own rows give.
+abbrev pub BookAnswers : Type 0
+BookAnswers = map number (ShortBuffer ∷ NotWellKept ∷ MalformedRecord ∷ BookFull ∷ []) ≡ 1 ∷ 2 ∷ 3 ∷ 6 ∷ []
 
 -- of all answers only a full book has the number 6, and the one-premise rules have no such row
 abbrev pub FullIsSix : Type 0

@@ -11,8 +11,8 @@ use Rattle.records.specs.Records.{moveIn, moveOut, standardSwitch, selfSelected
 use Rattle.premise.specs.declared.Order.{Order}
 use Rattle.premise.specs.Orders.{inReview, permitPending, scheduled, cancelPending, complete, cancelled}
 use Rattle.premise.specs.Passes.{codeOrder, codeScheduled, codeLosing, codeCancel}
-use Rattle.premise.specs.Pieces.Forms.{Piece, piece, answered, tells, leaves, plays, daily, onDays, line, sent, nothing, state, stands}
-use Rattle.premise.specs.Pieces.Forms.{create, order, schedule, permit, unexecuted, read, cancel, marks, business}
+use Rattle.premise.specs.Pieces.Forms.{Piece, piece, answered, tells, leaves, plays, daily, onDays, line, sent, nothing, state}
+use Rattle.premise.specs.Pieces.Forms.{stands, create, order, schedule, permit, unexecuted, read, cancel, marks, business}
 
 -- eight open orders, references 1 to 8: drops, which no limit of days refuses
 abbrev eight : List Record

@@ -155,14 +155,15 @@ losing =
     []
     (stands 1 moveIn 201 3 12 cancelPending 4 1 0 ∷ told0 moveIn 2 12 complete ∷ told0 moveIn 3 12 cancelled
     ∷ told0 moveIn 4 12 unexecutable ∷ []))
-    ∷ piece "pass 4: R 0 hears nothing" (suppliedBy 0 (told0 moveIn 1 12 scheduled ∷ []) [] (told1 moveIn 1 12 scheduled ∷ []))
+    ∷ piece "pass 4: R 0 hears nothing" (suppliedBy 0 (stands 1 moveIn 201 3 12 scheduled 4 2 0 ∷ []) []
+    (stands 1 moveIn 201 3 12 scheduled 4 2 1 ∷ []))
     ∷ piece "pass 4: R that is Q hears nothing" (suppliedBy 201
     (told0 moveIn 1 12 scheduled ∷ told0 massTransitionDrop 2 11 scheduled ∷ [])
     (sent codeLosing massTransitionDrop 11 2 201 ∷ [])
     (told1 moveIn 1 12 scheduled ∷ told1 massTransitionDrop 2 11 scheduled ∷ []))
     ∷ piece "the four passes, one after another" (evaluated
-    (told0 moveIn 1 9 scheduled ∷ stands 2 moveIn 202 2 noDay permitPending 4 0 0 ∷ told0 massTransitionDrop 3 12 scheduled ∷ told0 selfSelectedSwitch 4 12 scheduled
-    ∷ told0 selfSelectedSwitch 5 12 scheduled ∷ [])
+    (told0 moveIn 1 9 scheduled ∷ stands 2 moveIn 202 2 noDay permitPending 4 0 0 ∷ told0 massTransitionDrop 3 12 scheduled
+    ∷ told0 selfSelectedSwitch 4 12 scheduled ∷ told0 selfSelectedSwitch 5 12 scheduled ∷ [])
     (cancelledTo selfSelectedSwitch 12 5 205 ++ cancelledTo massTransitionDrop 12 3 101 ++ cancelledTo moveIn noDay 2 202
     ++ (sent codeLosing moveIn 9 1 101 ∷ sent codeLosing selfSelectedSwitch 12 4 101 ∷ []))
     (told1 moveIn 1 9 scheduled ∷ stands 2 moveIn 202 2 noDay cancelled 5 0 0 ∷ told0 massTransitionDrop 3 12 cancelled

@@ -1,6 +1,7 @@
 -- Document 01, "Records": what each kind does, field by field, and whom it tells. Each piece hands in T 10 and a file with an older order
 -- beside the one that the record names, so that one changed in its place shows; scheduled days are out of window, so that the evaluation
--- at the end does nothing, but in the last topic.
+-- at the end does nothing, but in the last topic. Some hand in an SD or a W where no well-kept file has one: a field that must become 0, or
+-- must stay, shows then.
 use Prim.Native.Nat.{ℕ}
 use mathlib.Core.List.{List, [], _∷_, _++_}
 use Rattle.days.specs.Days.{noDay}
@@ -78,7 +79,6 @@ ordered =
     (state 10 101 5 (inStatus inReview 1 ∷ six ++ (ninth ∷ []))))
     ∷ []
 
--- W 0 is said whatever the status was: some pieces hand in a W where no well-kept file has one
 unfoldable pub scheduledOrPermitted : List Piece
 scheduledOrPermitted =
     piece "4, from In Review"
@@ -91,8 +91,10 @@ scheduledOrPermitted =
     (turns (stands 2 massTransitionDrop 202 12 14 cancelPending 4 3 0) (schedule 2 15) (sent codeScheduled massTransitionDrop 15 2 202 ∷ [])
     (stands 2 massTransitionDrop 202 12 15 scheduled 4 0 0))
     ∷ piece "5, from In Review"
-    (turns (stands 2 moveIn 202 12 noDay inReview 4 0 1) (permit 2) (sent codePermit moveIn noDay 2 202 ∷ [])
-    (stands 2 moveIn 202 12 noDay permitPending 0 0 1))
+    (turns (stands 2 moveIn 202 12 14 inReview 4 3 1) (permit 2) (sent codePermit moveIn 14 2 202 ∷ [])
+    (stands 2 moveIn 202 12 14 permitPending 0 3 1))
+    ∷ piece "5, SD none" (tells plain (beside (stands 2 moveIn 202 12 noDay inReview 4 0 1)) (permit 2 ∷ [])
+    (sent codePermit moveIn noDay 2 202 ∷ []))
     ∷ []
 
 -- kind 6 on an order of 202 with a W and told: R, the status, SD; and whom it tells
@@ -118,8 +120,8 @@ unexecuteds =
 -- a read of a Scheduled order of 202 on a day: K; R and S afterwards
 abbrev reads : ℕ → ℕ → ℕ → ℕ → Case
 reads kind day retailer since =
-    does plain (state 10 101 5 (older ∷ stands 2 kind 202 12 15 scheduled 4 0 1 ∷ [])) (read 2 day) []
-    (state 10 retailer since (older ∷ stands 2 kind 202 12 day complete 4 0 1 ∷ []))
+    does plain (state 10 101 5 (older ∷ stands 2 kind 202 12 15 scheduled 4 2 1 ∷ [])) (read 2 day) []
+    (state 10 retailer since (older ∷ stands 2 kind 202 12 day complete 4 2 1 ∷ []))
 
 unfoldable pub readings : List Piece
 readings =

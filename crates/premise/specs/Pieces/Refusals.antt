@@ -1,4 +1,5 @@
--- Document 01, "Not first in" and the table of refusals: each row's condition on both sides, and the rows that can meet. T is 10 unless said.
+-- Document 01, "Not first in" and the table of refusals: each row's condition on both sides, and the rows that can meet. T is 10 unless
+-- said.
 use Prim.Native.Nat.{ℕ, _+_}
 use mathlib.Core.List.{List, [], _∷_, _++_, map}
 use lib.ListN.{replicate}
@@ -153,7 +154,8 @@ stacks =
     ∷ piece "8: a closed order that would make room" (asked plain (state 10 101 5 (eight moveIn cancelled 12))
     (order moveOut 12 1 202 ∷ order moveOut 12 9 202 ∷ []) (8 ∷ 0 ∷ []))
     ∷ piece "12: eight open; 8, 9 and 11 come before it" (asked plain (state 10 101 5 (eight moveIn inReview 101))
-    (order moveIn 11 9 202 ∷ order moveIn 11 8 202 ∷ order moveIn 101 9 202 ∷ order moveIn 101 8 202 ∷ order massTransitionDrop 5 9 202 ∷ [])
+    (order moveIn 11 9 202 ∷ order moveIn 11 8 202 ∷ order moveIn 101 9 202 ∷ order moveIn 101 8 202
+    ∷ order massTransitionDrop 5 9 202 ∷ [])
     (12 ∷ 8 ∷ 9 ∷ 8 ∷ 12 ∷ []))
     ∷ piece "11 before 12, 8 before 11" (asked plain (state 10 101 5 (eight moveIn inReview 12))
     (order moveIn 12 9 202 ∷ order moveIn 12 8 202 ∷ order moveOut 12 9 202 ∷ []) (11 ∷ 8 ∷ 12 ∷ []))
@@ -163,7 +165,8 @@ stacks =
     (state 10 101 5 (stands 9 moveIn 201 3 4 complete 4 0 1 ∷ map (λ (reference : ℕ). stands reference moveOut 201 3 noDay inReview 4 0 1)
     (1 ∷ 2 ∷ 3 ∷ 4 ∷ 5 ∷ 6 ∷ 7 ∷ [])))
     (order moveOut 12 10 202 ∷ []) (0 ∷ []))
-    ∷ piece "13: another reference, on each of the kinds 4 to 9" (asked plain (state 10 101 5 (stands 2 moveIn 201 3 noDay inReview 4 0 1 ∷ []))
+    ∷ piece "13: another reference, on each of the kinds 4 to 9" (asked plain
+    (state 10 101 5 (stands 2 moveIn 201 3 noDay inReview 4 0 1 ∷ []))
     onIt (replicate 7 13))
     ∷ piece "13: without an order" (asked plain (state 10 101 5 []) onIt (replicate 7 13))
     ∷ piece "13: a cancel of another retailer, and before 14" (asked plain (holding moveIn 15 complete) (cancel 1 202 ∷ cancel 1 201 ∷ [])

@@ -5,4 +5,5 @@ pub mod Emits
 pub mod Fields
 pub mod Formed
 pub mod Notices
+pub mod Ranges
 pub mod Readings

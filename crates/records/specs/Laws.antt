@@ -1,17 +1,18 @@
--- What the layers above may rely on about records, as statements; proofs/Formed.antt and proofs/Readings.antt prove them.
+-- What the layers above may rely on about records, as statements; proofs/Ranges.antt, proofs/Formed.antt and proofs/Readings.antt prove them.
 use Prim.Native.Nat.{ℕ, _≤_, _<_}
 use mathlib.Core.Path.{_≡_}
+use mathlib.Core.Logic.{_↔_}
 use mathlib.Core.List.{List, [], _∷_}
-use mathlib.Core.Bool.{true}
+use mathlib.Core.Bool.{Bool, true}
 use lib.ListN.{length, getD}
 use Rattle.days.specs.Days.{lastDay}
 use Rattle.records.specs.declared.Record.{Record}
 use Rattle.records.specs.declared.Reading.{Reading}
 use Rattle.records.specs.declared.Reading.the-variants.{Malformed, Says}
-use Rattle.records.specs.Layout.{GoesInto, recordLength, kindField, detailField, dayField, referenceField, premiseField}
+use Rattle.records.specs.Layout.{Field, GoesInto, recordLength, kindField, detailField, dayField, referenceField, premiseField}
 use Rattle.records.specs.Layout.{retailerField, zeroField, fieldOf}
 use Rattle.records.specs.Records.{kindNewOrder, kindDayMark, standardSwitch, massTransitionDrop, replyReject, lastRetailer}
-use Rattle.records.specs.Records.{wellFormed, fieldsOf}
+use Rattle.records.specs.Records.{aReference, aPremise, wellFormed, fieldsOf}
 
 -- What a field holds, as facts; specs/Records.antt has the tests.
 abbrev pub Unused : ℕ → Type 0
@@ -33,6 +34,17 @@ ARetailer = UpTo lastRetailer
 
 abbrev pub ARetailerOrNone : ℕ → Type 0
 ARetailerOrNone n = n ≤ lastRetailer
+
+-- F has 32 bits and P 64, and neither is 0. The tests ask "not 0" and leave the bits to the fields: of what goes into its field they say
+-- document 01's whole range.
+abbrev pub SaysRange : (ℕ → Bool) → Field → ℕ → Type 0
+SaysRange test field last = (n : ℕ) → GoesInto field n → (test n ≡ true) ↔ UpTo last n
+
+abbrev pub ReferenceRange : Type 0
+ReferenceRange = SaysRange aReference referenceField 4294967295
+
+abbrev pub PremiseRange : Type 0
+PremiseRange = SaysRange aPremise premiseField 18446744073709551615
 
 -- a new order's day: a day, and 0 for a standard switch
 pub record OrderDay (kind day : ℕ) : Type 0 where

@@ -1,13 +1,12 @@
 -- The table of a call in its order: the rows' numbers, and rows 1 and 2 before all that come after them. Assumes nothing.
 use Prim.Native.Nat.{ℕ}
 use mathlib.Core.Path.{_≡_, refl, sym, ap, ap₂, _∙_}
-use mathlib.Core.List.{List, [], _∷_, _++_, map, map-append}
-use mathlib.Core.Bool.{Bool, true, false, not, _&&_}
+use mathlib.Core.List.{List, [], _∷_, _++_, map-append}
+use mathlib.Core.Bool.{Bool, not, _&&_}
 use lib.Dec.{eqb}
 use lib.ListN.{length, getD}
 use borrow.Author.Tests.{lt-ltb, le-ltb}
 use Rattle.records.specs.declared.Reading.{Reading}
-use Rattle.records.specs.declared.Reading.the-variants.{Malformed, Says}
 use Rattle.records.specs.Records.{reading, kindCreate}
 use Rattle.premise.specs.declared.Answer.{Answer}
 use Rattle.premise.specs.declared.Answer.the-variants.{ShortBuffer, NotWellKept, MalformedRecord, BookFull}

@@ -7,7 +7,7 @@ use Rattle.premise.specs.Pieces.Document.{limits, reviews, permits, swit
 use Rattle.premise.specs.Pieces.Records.{created, ordered, scheduledOrPermitted, unexecuteds, readings, cancels, evaluations}
 use Rattle.premise.specs.Pieces.Clock.{reviewsEnd, permitsEnd, cancelsEnd}
 use Rattle.premise.specs.Pieces.Evaluation.{sameDay, drops, overtaken, losing}
-use Rattle.premise.specs.Pieces.Refusals.{firstIn, statuses, premises, days, stacks}
+use Rattle.premise.specs.Pieces.Refusals.{firstIn, statuses, premises, dayLimits, stacks}
 use Rattle.premise.specs.Pieces.Kept.{keptOrders, keptFiles, numbers}
 use Rattle.premise.specs.Pieces.{pieces}
 
@@ -117,9 +117,9 @@ premises-hold : Hold premises
 unfolding failed premises
 premises-hold = record { none = refl }
 
-days-hold : Hold days
-unfolding failed days
-days-hold = record { none = refl }
+dayLimits-hold : Hold dayLimits
+unfolding failed dayLimits
+dayLimits-hold = record { none = refl }
 
 stacks-hold : Hold stacks
 unfolding failed stacks
@@ -141,4 +141,4 @@ pub set-pieces : failed pieces ≡ []
 set-pieces = (limits-hold also reviews-hold also permits-hold also switches-hold also tape-hold also created-hold also ordered-hold also
     scheduledOrPermitted-hold also unexecuteds-hold also readings-hold also cancels-hold also evaluations-hold also reviewsEnd-hold also
     permitsEnd-hold also cancelsEnd-hold also sameDay-hold also drops-hold also overtaken-hold also losing-hold also firstIn-hold also
-    statuses-hold also premises-hold also days-hold also stacks-hold also keptOrders-hold also keptFiles-hold also numbers-hold) .none
+    statuses-hold also premises-hold also dayLimits-hold also stacks-hold also keptOrders-hold also keptFiles-hold also numbers-hold) .none

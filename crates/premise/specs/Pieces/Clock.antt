@@ -1,6 +1,6 @@
 -- Document 01, "Clock": each of its counts on both sides. Each piece hands in T 9 and plays the mark of day 10, a business day unless said.
 use Prim.Native.Nat.{ℕ}
-use mathlib.Core.List.{List, [], _∷_, _++_, map}
+use mathlib.Core.List.{List, [], _∷_, map}
 use Rattle.days.specs.Days.{noDay}
 use Rattle.records.specs.declared.Notice.{Notice}
 use Rattle.records.specs.Notices.{tdsp}

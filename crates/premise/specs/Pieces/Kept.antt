@@ -1,7 +1,6 @@
 -- Document 01, "The book": well kept, with a case on each side of every range; and the numbers of statuses, codes, kinds and answers.
 use Prim.Native.Nat.{ℕ}
 use mathlib.Core.List.{List, [], _∷_, _++_, map}
-use mathlib.Core.Option.{none}
 use lib.ListN.{replicate}
 use Rattle.days.specs.Days.{noDay}
 use Rattle.records.specs.Notices.{tdsp}
@@ -19,7 +18,7 @@ use Rattle.premise.specs.Passes.{codeOrder, codeMoveOut, codeScheduled, 
 use Rattle.premise.specs.Passes.{codeReject}
 use Rattle.premise.specs.Refusals.{number}
 use Rattle.premise.specs.OnePremise.{startState}
-use Rattle.premise.specs.Pieces.Forms.{Case, Piece, piece, keeps, damaged, keepsFiles, damagedFiles, unusedFiles, usedFiles, numbered}
+use Rattle.premise.specs.Pieces.Forms.{Piece, piece, keeps, damaged, keepsFiles, damagedFiles, unusedFiles, usedFiles, numbered}
 use Rattle.premise.specs.Pieces.Forms.{leaves, plain, nothing, stands, zeros, file}
 
 -- an order by its SD and status, else in range; with a W

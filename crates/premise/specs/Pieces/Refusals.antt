@@ -1,6 +1,6 @@
 -- Document 01, "Not first in" and the table of refusals: each row's condition on both sides, and the rows that can meet. T is 10 unless
 -- said.
-use Prim.Native.Nat.{ℕ, _+_}
+use Prim.Native.Nat.{ℕ}
 use mathlib.Core.List.{List, [], _∷_, _++_, map}
 use lib.ListN.{replicate}
 use Rattle.days.specs.Days.{noDay}
@@ -127,8 +127,8 @@ premises =
     ∷ piece "15: on the last day" (asked (business 1) (nothing 4095) (mark 0 ∷ mark 4095 ∷ []) (15 ∷ 15 ∷ []))
     ∷ []
 
-unfoldable pub days : List Piece
-days =
+unfoldable pub dayLimits : List Piece
+dayLimits =
     piece "9: a move out" (limitsOf moveOut (0 ∷ 0 ∷ 9 ∷ 9 ∷ []))
     ∷ piece "9: a self-selected switch" (limitsOf selfSelectedSwitch (0 ∷ 0 ∷ 9 ∷ 9 ∷ []))
     ∷ piece "9: not a drop" (limitsOf massTransitionDrop (0 ∷ 0 ∷ 0 ∷ 0 ∷ []))

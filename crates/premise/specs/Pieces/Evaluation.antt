@@ -124,8 +124,8 @@ overtaken =
     ∷ piece "pass 3: not for the same RD" (stay (permitFor 12 ∷ other moveIn 12 10 scheduled ∷ []))
     ∷ piece "pass 3: not for an earlier RD" (stay (permitFor 13 ∷ other moveIn 12 10 scheduled ∷ []))
     ∷ piece "pass 3: not for another K" (stay
-    (permitFor 11 ∷ other moveOut 12 10 scheduled ∷ stands 3 selfSelectedSwitch 203 12 10 scheduled 4 0 1
-    ∷ stands 4 massTransitionDrop 204 12 9 scheduled 4 0 1 ∷ []))
+    (permitFor 11 ∷ other moveOut 12 10 scheduled ∷ stands 3 standardSwitch 203 12 8 scheduled 4 0 1
+    ∷ stands 4 selfSelectedSwitch 204 12 10 scheduled 4 0 1 ∷ stands 5 massTransitionDrop 205 12 9 scheduled 4 0 1 ∷ []))
     ∷ piece "pass 3: not for one that is Cancel Pending" (evaluated
     (permitFor 11 ∷ other moveIn 12 10 cancelPending ∷ [])
     []

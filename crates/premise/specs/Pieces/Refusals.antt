@@ -8,9 +8,10 @@ use Rattle.records.specs.declared.Record.{Record}
 use Rattle.records.specs.Records.{moveIn, moveOut, standardSwitch, selfSelectedSwitch, massTransitionDrop, replyAccept, replyReject}
 use Rattle.premise.specs.declared.Order.{Order}
 use Rattle.premise.specs.Orders.{inReview, permitPending, scheduled, cancelPending, complete, cancelled, unexecutable}
+use Rattle.premise.specs.FirstIn.{table}
 use Rattle.premise.specs.OnePremise.{State}
-use Rattle.premise.specs.Pieces.Forms.{Case, Piece, piece, answered, asked, nothing, state, stands, plain, business, create, retire}
-use Rattle.premise.specs.Pieces.Forms.{order, schedule, permit, unexecuted, read, cancel, reply, mark}
+use Rattle.premise.specs.Pieces.Forms.{Case, Piece, piece, answered, asked, numbered, nothing, state, stands, plain, business}
+use Rattle.premise.specs.Pieces.Forms.{create, retire, order, schedule, permit, unexecuted, read, cancel, reply, mark}
 
 -- a file with one order of 201, by K, SD and status; its reference is 1
 abbrev holding : ℕ → ℕ → ℕ → State
@@ -27,12 +28,19 @@ news =
 abbrev beside : ℕ → ℕ → ℕ → List ℕ → Case
 beside kind for status answers = asked plain (holding kind for status) news answers
 
+-- the cells of a table, row after row
+abbrev joined : List (List ℕ) → List ℕ
+joined [] = []
+joined (cells ∷ more) = cells ++ joined more
+
 abbrev allTaken : List ℕ
 allTaken = 0 ∷ 0 ∷ 0 ∷ 0 ∷ 0 ∷ []
 
 unfoldable pub firstIn : List Piece
 firstIn =
-    piece "11, table 11.1: Scheduled move in" (beside moveIn 10 scheduled (11 ∷ 0 ∷ 0 ∷ 11 ∷ 0 ∷ []))
+    piece "11, table 11.1, cell by cell"
+    (numbered (joined table) (1 ∷ 0 ∷ 0 ∷ 1 ∷ 0 ∷ 1 ∷ 0 ∷ 1 ∷ 0 ∷ 0 ∷ 0 ∷ 1 ∷ 0 ∷ 0 ∷ 0 ∷ 1 ∷ 0 ∷ 0 ∷ 0 ∷ 0 ∷ []))
+    ∷ piece "11, table 11.1: Scheduled move in" (beside moveIn 10 scheduled (11 ∷ 0 ∷ 0 ∷ 11 ∷ 0 ∷ []))
     ∷ piece "11, table 11.1: Scheduled move out" (beside moveOut 10 scheduled (0 ∷ 11 ∷ 0 ∷ 11 ∷ 0 ∷ []))
     ∷ piece "11, table 11.1: Scheduled standard switch, and the line below the table"
     (beside standardSwitch 10 scheduled (0 ∷ 0 ∷ 11 ∷ 11 ∷ 0 ∷ []))

@@ -48,7 +48,7 @@ notices-append (g ∷ gs) hs =
 pub record Alone (calendar : List ℕ) (premise : ℕ) (b : Book) (s : State) (ms : List Made) : Type 0 where
   pub state : premiseState (lastBook b ms) premise ≡ endState calendar s (records (ownBytes premise ms))
   pub answered : answers premise ms ≡ ruledAnswers (runs calendar s (records (ownBytes premise ms)))
-  pub told : noticesFor premise ms ≡ ruledNotices (runs calendar s (records (ownBytes premise ms)))
+  pub notices : noticesFor premise ms ≡ ruledNotices (runs calendar s (records (ownBytes premise ms)))
 
 module _ (calendar : List ℕ) where
   module _ (b : Book) (k : OnWay b) (m : Made) (p : Promised calendar b (m .bytes) (m .lent) (m .reply) (m .after)) (a : Allowed b m) where
@@ -78,15 +78,15 @@ module _ (calendar : List ℕ) where
         (agrees calendar b k premise (reading (m .bytes)) (sound (m .bytes) (a .real)))
 
     -- the notices of the premise that stand in the buffer on return
-    call-told : (premise : ℕ)
+    call-notices : (premise : ℕ)
         → withPremise premise (rows (m .reply .sent) (m .after))
         ≡ ruledNotices (runs calendar (premiseState b premise) (mine premise (reading (m .bytes))))
-    call-told premise =
-        ap (withPremise premise) (emits-rows (p .notices)) ∙ call-agrees premise .told
+    call-notices premise =
+        ap (withPremise premise) (emits-rows (p .notices)) ∙ call-agrees premise .notices
 
   pub alone : (premise : ℕ) (b : Book) (ms : List Made) → OnWay b → Played calendar b ms → AllAllowed b ms
       → Alone calendar premise b (premiseState b premise) ms
-  alone premise b [] k p a = record { state = refl; answered = refl; told = refl }
+  alone premise b [] k p a = record { state = refl; answered = refl; notices = refl }
   alone premise b (m ∷ ms) k p a =
       let one = call-agrees b k m (p .0) (a .0) premise in
       let rest = alone premise (m .reply .book) ms (on-way b k m (p .0) (a .0)) (p .1) (a .1) in
@@ -108,8 +108,8 @@ module _ (calendar : List ℕ) where
             ∙ ap₂ (λ (x y : List ℕ). x ++ y) (one .answered) (rest .answered)
             ∙ sym (map-append (λ (g : Given). number (g .answer)) (runs calendar s now) (runs calendar next later))
             ∙ ap ruledAnswers (sym split);
-        told =
-            ap₂ (λ (x y : List (List ℕ)). x ++ y) (call-told b k m (p .0) (a .0) premise) (rest .told)
+        notices =
+            ap₂ (λ (x y : List (List ℕ)). x ++ y) (call-notices b k m (p .0) (a .0) premise) (rest .notices)
             ∙ sym (notices-append (runs calendar s now) (runs calendar next later)) ∙ ap ruledNotices (sym split);
       }
 

@@ -37,7 +37,7 @@ each-premise-alone calendar start ms p a premise i =
       file = ap (λ (s : State). s .file) (x .state);
       today = ap (λ (s : State). s .today) (x .state);
       answered = x .answered;
-      told = x .told;
+      notices = x .notices;
     }
 
 -- a book is its day and its files
@@ -72,8 +72,8 @@ shuffle-proof calendar start ms ns p a q c agree =
               ∙ sym (other premise i .file);
           answered = one premise i .answered ∙ ap (λ l. ruledAnswers (runs calendar (startState start) (records l))) (agree premise i)
               ∙ sym (other premise i .answered);
-          told = one premise i .told ∙ ap (λ l. ruledNotices (runs calendar (startState start) (records l))) (agree premise i)
-              ∙ sym (other premise i .told);
+          notices = one premise i .notices ∙ ap (λ l. ruledNotices (runs calendar (startState start) (records l))) (agree premise i)
+              ∙ sym (other premise i .notices);
         }
 
     -- T is that of any premise

@@ -42,12 +42,12 @@ state-of today premise fs = ap (λ l. record { today = today; file = fileFor pre
 record AsGiven (premise : ℕ) (x : Result) (g : Given) : Type 0 where
   state : premiseState (x .book) premise ≡ g .state
   answered : number (x .answer) ≡ number (g .answer)
-  told : withPremise premise (map encode (x .notices)) ≡ map encode (g .notices)
+  notices : withPremise premise (map encode (x .notices)) ≡ map encode (g .notices)
 
 -- any other gives it nothing
 record Unseen (premise : ℕ) (b : Book) (x : Result) : Type 0 where
   state : premiseState (x .book) premise ≡ premiseState b premise
-  told : withPremise premise (map encode (x .notices)) ≡ []
+  notices : withPremise premise (map encode (x .notices)) ≡ []
 
 -- The records that concern the premise in a call: one or none.
 abbrev pub mine : ℕ → Reading → List Record
@@ -58,7 +58,7 @@ pub record Agrees (calendar : List ℕ) (premise : ℕ) (b : Book) (d : Reading)
   pub state : premiseState (x .book) premise ≡ endState calendar (premiseState b premise) (mine premise d)
   pub answered : cond (concerns premise d) (number (x .answer) ∷ []) []
       ≡ ruledAnswers (runs calendar (premiseState b premise) (mine premise d))
-  pub told : withPremise premise (map encode (x .notices)) ≡ ruledNotices (runs calendar (premiseState b premise) (mine premise d))
+  pub notices : withPremise premise (map encode (x .notices)) ≡ ruledNotices (runs calendar (premiseState b premise) (mine premise d))
 
 module _ (calendar : List ℕ) (b : Book) (k : OnWay b) where
   rising : Rising 0 (filesOf b)
@@ -76,9 +76,9 @@ module _ (calendar : List ℕ) (b : Book) (k : OnWay b) where
         state = state-of (r .day) premise (markedFiles calendar (r .day) (filesOf b))
             ∙ marked-state calendar (r .day) premise (filesOf b) (k .kept .files);
         answered = ap number (sym (marked-accepted calendar (r .day) (fileFor premise (filesOf b))));
-        told = pick-marked calendar (r .day) premise 0 (filesOf b) rising (k .ranged);
+        notices = pick-marked calendar (r .day) premise 0 (filesOf b) rising (k .ranged);
       }
-      go false = record { state = refl; answered = refl; told = refl }
+      go false = record { state = refl; answered = refl; notices = refl }
 
   -- ---- a record of one premise
   module _ (r : Record) (s : Sound r) (t : is kindDayMark r ≡ false) where
@@ -98,7 +98,7 @@ module _ (calendar : List ℕ) (b : Book) (k : OnWay b) where
           state = state-of (b .today) (r .premise) (withFile (r .premise) (given .state .file) (filesOf b))
               ∙ (λ i. record { today = sym day i; file = found i });
           answered = refl;
-          told = pick-own (r .premise) (given .notices) (s .ranged t)
+          notices = pick-own (r .premise) (given .notices) (s .ranged t)
               (step-notices calendar (premiseState b (r .premise)) r (r .premise) before);
         }
 
@@ -109,13 +109,13 @@ module _ (calendar : List ℕ) (b : Book) (k : OnWay b) where
         record {
           state = state-of (b .today) premise (withFile (r .premise) (given .state .file) (filesOf b))
               ∙ (λ i. record { today = b .today; file = found i });
-          told = pick-other premise (r .premise) (given .notices) n (s .ranged t)
+          notices = pick-other premise (r .premise) (given .notices) n (s .ranged t)
               (step-notices calendar (premiseState b (r .premise)) r (r .premise) before);
         }
 
   -- ---- a call
   pub agrees : (premise : ℕ) (d : Reading) → SoundIn d → Agrees calendar premise b d (acted calendar b d)
-  agrees premise Malformed s = record { state = refl; answered = refl; told = refl }
+  agrees premise Malformed s = record { state = refl; answered = refl; notices = refl }
   agrees premise (Says r) s = go (is kindDayMark r) (eqb (r .premise) premise) refl refl
     where
       go : (mark own : Bool) → is kindDayMark r ≡ mark → eqb (r .premise) premise ≡ own
@@ -125,7 +125,7 @@ module _ (calendar : List ℕ) (b : Book) (k : OnWay b) where
           record {
             state = rw t (g .state);
             answered = rw t (ap (λ n. n ∷ []) (g .answered));
-            told = rw t (g .told ∙ sym (append-nil (map encode (step calendar (premiseState b premise) r .notices))));
+            notices = rw t (g .notices ∙ sym (append-nil (map encode (step calendar (premiseState b premise) r .notices))));
           }
       go false true t e =
           let g = subst (λ p. AsGiven p (asOne calendar b r) (step calendar (premiseState b p) r)) (eqb-true (r .premise) premise e)
@@ -133,8 +133,8 @@ module _ (calendar : List ℕ) (b : Book) (k : OnWay b) where
           record {
             state = rw (t, e) (g .state);
             answered = rw (t, e) (ap (λ n. n ∷ []) (g .answered));
-            told = rw (t, e) (g .told ∙ sym (append-nil (map encode (step calendar (premiseState b premise) r .notices))));
+            notices = rw (t, e) (g .notices ∙ sym (append-nil (map encode (step calendar (premiseState b premise) r .notices))));
           }
       go false false t e =
           let g = unseen r s t premise (eqb-false (r .premise) premise e) in
-          record { state = rw (t, e) (g .state); answered = rw (t, e); told = rw (t, e) (g .told) }
+          record { state = rw (t, e) (g .state); answered = rw (t, e); notices = rw (t, e) (g .notices) }

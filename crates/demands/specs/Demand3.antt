@@ -108,7 +108,7 @@ pub record AsRuled (calendar : List ℕ) (start premise : ℕ) (ms : List Made) 
       ≡ endState calendar (startState start) (records (ownBytes premise ms)) .file
   pub today : lastBook (freshBook start) ms .today ≡ endState calendar (startState start) (records (ownBytes premise ms)) .today
   pub answered : answers premise ms ≡ ruledAnswers (runs calendar (startState start) (records (ownBytes premise ms)))
-  pub told : noticesFor premise ms ≡ ruledNotices (runs calendar (startState start) (records (ownBytes premise ms)))
+  pub notices : noticesFor premise ms ≡ ruledNotices (runs calendar (startState start) (records (ownBytes premise ms)))
 
 abbrev pub EachPremiseAlone : Type 0
 EachPremiseAlone =
@@ -120,7 +120,7 @@ EachPremiseAlone =
 pub record SameFor (start premise : ℕ) (ms ns : List Made) : Type 0 where
   pub file : fileFor premise (filesOf (lastBook (freshBook start) ms)) ≡ fileFor premise (filesOf (lastBook (freshBook start) ns))
   pub answered : answers premise ms ≡ answers premise ns
-  pub told : noticesFor premise ms ≡ noticesFor premise ns
+  pub notices : noticesFor premise ms ≡ noticesFor premise ns
 
 pub record SameBooks (start : ℕ) (ms ns : List Made) : Type 0 where
   pub each : (premise : ℕ) → Premise premise → SameFor start premise ms ns

@@ -1,7 +1,11 @@
 pub mod Alone
 pub mod Demand1
+pub mod Demand2
 pub mod Demand3
+pub mod Fleet
 pub mod OnWay
 pub mod OneCall
 pub mod Picks
+pub mod Rearranged
 pub mod Sample
+pub mod Tapes

@@ -18,7 +18,8 @@ use Rattle.premise.specs.Refusals.{number}
 use Rattle.premise.specs.OnePremise.{State, Given, step}
 use Rattle.book.specs.declared.Book.{Book}
 use Rattle.book.specs.Book.{filesOf, bookOf, fileFor, withFile}
-use Rattle.book.specs.Calls.{noticeBytes, callRows, premiseState, markedFiles, markedBook, Result, refusal, call, meetsRow6, onDayMark, asOne}
+use Rattle.book.specs.Calls.{noticeBytes, callRows, premiseState, markedFiles, markedBook, Result, refusal, call, meetsRow6}
+use Rattle.book.specs.Calls.{onDayMark, asOne}
 use Rattle.book.specs.Laws.{BookKept}
 use Rattle.demands.specs.Demand2.{PastRows1And2, OfAPremise, OfTheNextDay, OfAnotherDay, ShortBufferGets1, DamagedBookGets2}
 use Rattle.demands.specs.Demand2.{MalformedGets3, NoPlaceGets6, Demand2}
@@ -104,7 +105,8 @@ of-the-next-day calendar b bytes before reply after p past r e mark next =
       rising = k .rising;
       today = ap (λ (x : Book). x .today) left ∙ day-of (r .day) files;
       files = held;
-      each = λ premise. ap (fileFor premise) held ∙ ap (λ (s : State). s .file) (marked-state calendar (r .day) premise (filesOf b) (k .files));
+      each = λ premise.
+          ap (fileFor premise) held ∙ ap (λ (s : State). s .file) (marked-state calendar (r .day) premise (filesOf b) (k .files));
     }
 
 pub of-another-day : OfAnotherDay

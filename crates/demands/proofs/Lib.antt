@@ -1,8 +1,10 @@
 pub mod Alone
+pub mod Callers
 pub mod Demand1
 pub mod Demand2
 pub mod Demand3
 pub mod Fleet
+pub mod LastDay
 pub mod OnWay
 pub mod OneCall
 pub mod Picks

@@ -22,7 +22,7 @@ use Rattle.demands.specs.Demand3.{Premise, withPremise}
 use Rattle.book.proofs.Files.{Rising, found-below, found-head, found-tail}
 
 -- ---- picked by number
-pick-append : (premise : ℕ) (a b : List (List ℕ)) → withPremise premise (a ++ b) ≡ withPremise premise a ++ withPremise premise b
+pub pick-append : (premise : ℕ) (a b : List (List ℕ)) → withPremise premise (a ++ b) ≡ withPremise premise a ++ withPremise premise b
 pick-append premise [] b = refl
 pick-append premise (x ∷ a) b = go (eqb (fieldOf premiseField x) premise) (pick-append premise a b)
   where

@@ -32,7 +32,8 @@ pub nobody-sees : (calendar : List ℕ) (start : ℕ) (tape tape₂ : List (List
     → ((premise : ℕ) → ownOf premise tape ≡ ownOf premise tape₂) → NobodySees start ms ns
 nobody-sees calendar start tape tape₂ ms ns p q agree =
     let same = demand-3 .shuffled calendar start ms ns (p .played) (p .allowed) (q .played) (q .allowed)
-    (λ premise i. own-of-made premise ms ∙ ap (ownOf premise) (p .fed) ∙ agree premise ∙ sym (own-of-made premise ns ∙ ap (ownOf premise) (q .fed))) in
+    (λ premise i. own-of-made premise ms ∙ ap (ownOf premise) (p .fed) ∙ agree premise
+    ∙ sym (own-of-made premise ns ∙ ap (ownOf premise) (q .fed))) in
     record {
       file = λ premise i. same .each premise i .file;
       answered = λ premise i. same .each premise i .answered;
@@ -51,7 +52,8 @@ concerns-one here premise (Says r) e =
 -- ---- two neighbours change places
 module _ (premise here there : ℕ) (one two : List ℕ) (apart : here ≡ there → ⊥) where
   either-way : (rest : List (List ℕ)) (a b : Bool) → eqb here premise ≡ a → eqb there premise ≡ b
-      → cond a (one ∷ cond b (two ∷ rest) rest) (cond b (two ∷ rest) rest) ≡ cond b (two ∷ cond a (one ∷ rest) rest) (cond a (one ∷ rest) rest)
+      → cond a (one ∷ cond b (two ∷ rest) rest) (cond b (two ∷ rest) rest)
+      ≡ cond b (two ∷ cond a (one ∷ rest) rest) (cond a (one ∷ rest) rest)
   either-way rest true true a b = absurd (apart (eqb-true here premise a ∙ sym (eqb-true there premise b)))
   either-way rest true false a b = refl
   either-way rest false true a b = refl

@@ -34,7 +34,7 @@ use Rattle.demands.specs.Sample.{malformed, calendar, tape, sample, shuf
 use Rattle.demands.specs.Sample.{losing5, buffers, Comes}
 
 -- each call of a list that is played keeps the record call's promise, whatever the records
-plays-played : (calendar : List ℕ) (b : Book) (tape : List (List ℕ)) → Played calendar b (plays calendar b tape)
+pub plays-played : (calendar : List ℕ) (b : Book) (tape : List (List ℕ)) → Played calendar b (plays calendar b tape)
 unfolding made plays
 plays-played calendar b [] = tt
 plays-played calendar b (bytes ∷ tape) = (
@@ -44,7 +44,7 @@ plays-played calendar b (bytes ∷ tape) = (
 )
 
 -- .. and is allowed where the test says so
-are-bytes : (xs : List ℕ) → allOf (λ (x : ℕ). ltb x 256) xs ≡ true → Bytes xs
+pub are-bytes : (xs : List ℕ) → allOf (λ (x : ℕ). ltb x 256) xs ≡ true → Bytes xs
 are-bytes [] e = tt
 are-bytes (x ∷ xs) e =
     let rest : Bool = allOf (λ (y : ℕ). ltb y 256) xs in
@@ -54,7 +54,8 @@ room : noticeBytes ≤ length lent
 unfolding lent
 room = lit≤ tt
 
-plays-allowed : (calendar : List ℕ) (b : Book) (tape : List (List ℕ)) → allows calendar b tape ≡ true → AllAllowed b (plays calendar b tape)
+pub plays-allowed : (calendar : List ℕ) (b : Book) (tape : List (List ℕ)) → allows calendar b tape ≡ true
+    → AllAllowed b (plays calendar b tape)
 unfolding allows made plays
 plays-allowed calendar b [] e = tt
 plays-allowed calendar b (bytes ∷ tape) e =

@@ -51,7 +51,8 @@ PremiseLeftOut =
 pub record NothingMissed (start : ℕ) (first : List Made) (m : Made) (rest ns : List Made) : Type 0 where
   pub buffer : m .after ≡ m .lent
   pub file : (premise : ℕ) → Premise premise
-      → fileFor premise (filesOf (lastBook (freshBook start) (first ++ m ∷ rest))) ≡ fileFor premise (filesOf (lastBook (freshBook start) ns))
+      → fileFor premise (filesOf (lastBook (freshBook start) (first ++ m ∷ rest)))
+      ≡ fileFor premise (filesOf (lastBook (freshBook start) ns))
   pub answered : (premise : ℕ) → Premise premise → answers premise (first ++ rest) ≡ answers premise ns
   pub notices : (premise : ℕ) → Premise premise → noticesFor premise (first ++ m ∷ rest) ≡ noticesFor premise ns
   pub book : lastBook (freshBook start) (first ++ m ∷ rest) ≡ lastBook (freshBook start) ns

@@ -1,0 +1,172 @@
+-- What comes back on the last day, from the demands: the calls that are played by definition stand for all that are made of their tape.
+-- Assumes nothing.
+use Prim.Native.Nat.{ℕ, _≤_}
+use mathlib.Core.Path.{_≡_, refl, ap, sym, subst, _∙_}
+use mathlib.Core.List.{List, [], _∷_, _++_, map}
+use mathlib.Core.Bool.{Bool, true, false}
+use native.Mathlib.Omega.{arith}
+use lib.Dec.{eqb, ltb}
+use lib.ListN.{length, length-map}
+use borrow.Author.Tests.{eqb-true}
+use Rattle.lists.specs.Search.{allOf, Each}
+use Rattle.lists.proofs.TestLaws.{and-left, and-right}
+use Rattle.days.specs.Days.{kindOfDay, isBusinessDay, switchDate}
+use Rattle.days.specs.Window.{businessDays, inWindow}
+use Rattle.records.specs.Layout.{Bytes, fieldOf}
+use Rattle.records.specs.Records.{wellFormed, reading}
+use Rattle.records.specs.Notices.{encode, rows}
+use Rattle.premise.specs.Orders.{places}
+use Rattle.premise.specs.Steps.{requestedDay, makeRoom, ordered, taken, onScheduled, onPermit, onUnexecutable, onRead, supplied, onCancel}
+use Rattle.premise.specs.Steps.{onReply, onOrder, changed}
+use Rattle.premise.specs.Clock.{reviewed, permitAwaited, cancelAwaited, ticked}
+use Rattle.premise.specs.Evaluation.{contends, switchOfDay, givesWay, sameDaySwitch, isDisplaced, dropOnSwitchDay, isOvertaken}
+use Rattle.premise.specs.Evaluation.{permitOvertaken, isDue, lossNotice, evaluation}
+use Rattle.premise.specs.FirstIn.{refuses, standsInWay, notFirstIn}
+use Rattle.premise.specs.WellKept.{orderKept, isBlank, fileKept, fileBlank}
+use Rattle.premise.specs.Refusals.{number, premiseRows, orderRows}
+use Rattle.premise.specs.OnePremise.{marked, stepped, step, startState, runs}
+use Rattle.book.specs.declared.Book.{Book}
+use Rattle.book.specs.Book.{freshBook, bookOf, bookKept, fileFor, putIn, takenOut}
+use Rattle.book.specs.Calls.{noticeBytes, callRows, call}
+use Rattle.demands.specs.Demand3.{Made, Played, lastBook, Premise, records, withPremise, noticesFor, ruledNotices}
+use Rattle.demands.specs.Sample.{lent, made, plays, allows}
+use Rattle.demands.specs.Tapes.{tapeOf, Plays, ownOf}
+use Rattle.demands.specs.Rearranged.{NobodySees}
+use Rattle.demands.specs.LastDay.{create7, create5, switch7, switch5, scheduled7, scheduled5, mark, retire6, oneByte}
+use Rattle.demands.specs.LastDay.{notices7, notices5, switchOf, fileOf, rowsOf, OnTheLastDay, tape, answers₁, tape₂, answers₂, tape₃, answers₃, LastDay}
+use Rattle.demands.proofs.Picks.{pick-append}
+use Rattle.demands.proofs.Sample.{are-bytes, plays-played, plays-allowed}
+use Rattle.demands.proofs.Tapes.{plays-ruled}
+use Rattle.demands.proofs.Rearranged.{nobody-sees}
+use Rattle.demands.proofs.Callers.{at-most-64-calls, buffers-dont-count}
+
+-- ---- the tapes, computed: what the premises and the calls played by definition come to
+record Computed (tape : List (List ℕ)) (answered : List ℕ) : Type 0 where
+  real : allOf (allOf (λ (x : ℕ). ltb x 256)) tape ≡ true
+  few : length tape ≤ 64
+  allowed : allows [] (freshBook 5000) tape ≡ true
+  numbers : map (λ (m : Made). number (m .reply .answer)) (plays [] (freshBook 5000) tape) ≡ answered
+
+record Ruled (tape : List (List ℕ)) : Type 0 where
+  of7 : ruledNotices (runs [] (startState 5000) (records (ownOf 7 tape))) ≡ notices7
+  of5 : ruledNotices (runs [] (startState 5000) (records (ownOf 5 tape))) ≡ notices5
+  of6 : ruledNotices (runs [] (startState 5000) (records (ownOf 6 tape))) ≡ []
+  book : lastBook (freshBook 5000) (plays [] (freshBook 5000) tape)
+      ≡ bookOf 4095 (fileOf 5 102 (switchOf 9 203) ∷ fileOf 7 101 (switchOf 1 202) ∷ [])
+
+record AllComputed : Type 0 where
+  first : Computed tape answers₁
+  second : Computed tape₂ answers₂
+  third : Computed tape₃ answers₃
+  ruled : Ruled tape
+
+computed : AllComputed
+unfolding reviewed permitAwaited cancelAwaited ticked contends switchOfDay givesWay sameDaySwitch isDisplaced dropOnSwitchDay isOvertaken
+    permitOvertaken isDue lossNotice evaluation refuses standsInWay notFirstIn marked stepped step places number premiseRows orderRows
+    requestedDay makeRoom ordered taken onScheduled onPermit onUnexecutable onRead supplied onCancel onReply onOrder changed orderKept
+    isBlank fileKept fileBlank fieldOf encode wellFormed reading kindOfDay isBusinessDay switchDate businessDays inWindow bookOf
+    bookKept fileFor putIn takenOut callRows call lent made plays allows create7 create5 switch7 switch5 scheduled7 scheduled5 mark
+    retire6 oneByte notices7 notices5 tape tape₂ tape₃
+computed = record {
+  first = record { real = refl; few = omega arith; allowed = refl; numbers = refl };
+  second = record { real = refl; few = omega arith; allowed = refl; numbers = refl };
+  third = record { real = refl; few = omega arith; allowed = refl; numbers = refl };
+  ruled = record { of7 = refl; of5 = refl; of6 = refl; book = refl };
+}
+
+-- ---- calls of which nothing is known but their tape and their promises
+all-bytes : (t : List (List ℕ)) → allOf (allOf (λ (x : ℕ). ltb x 256)) t ≡ true → Each Bytes t
+all-bytes [] e = tt
+all-bytes (bytes ∷ t) e =
+    let first : Bool = allOf (λ (x : ℕ). ltb x 256) bytes in
+    let rest : Bool = allOf (allOf (λ (x : ℕ). ltb x 256)) t in
+    (are-bytes bytes (and-left first rest e), all-bytes t (and-right first rest e))
+
+of-made : (ms : List Made) → Each Bytes (tapeOf ms) → Each (λ (m : Made). Bytes (m .bytes)) ms
+of-made [] u = tt
+of-made (m ∷ ms) u = (u .0, of-made ms (u .1))
+
+plays-of : (t : List (List ℕ)) (ms : List Made) → tapeOf ms ≡ t → Played [] (freshBook 5000) ms
+    → Each (λ (m : Made). noticeBytes ≤ length (m .lent)) ms → allOf (allOf (λ (x : ℕ). ltb x 256)) t ≡ true → length t ≤ 64
+    → Plays [] 5000 t ms
+plays-of t ms fed p room real few =
+    record {
+      fed = fed;
+      played = p;
+      allowed =
+          at-most-64-calls [] 5000 ms p (of-made ms (subst (Each Bytes) (sym fed) (all-bytes t real))) room
+          (omega (arith, few, ap length fed, length-map ms (λ (m : Made). m .bytes)));
+    }
+
+-- ---- the calls that are played by definition
+fed-to : (calendar : List ℕ) (b : Book) (t : List (List ℕ)) → tapeOf (plays calendar b t) ≡ t
+unfolding plays made
+fed-to calendar b [] = refl
+fed-to calendar b (bytes ∷ t) = ap (λ (l : List (List ℕ)). bytes ∷ l) (fed-to calendar (call calendar b bytes lent .book) t)
+
+by-definition : (t : List (List ℕ)) → allows [] (freshBook 5000) t ≡ true → Plays [] 5000 t (plays [] (freshBook 5000) t)
+by-definition t e =
+    record {
+      fed = fed-to [] (freshBook 5000) t;
+      played = plays-played [] (freshBook 5000) t;
+      allowed = plays-allowed [] (freshBook 5000) t e;
+    }
+
+-- ---- what comes back
+picked : (premise : ℕ) (ms : List Made) → withPremise premise (rowsOf ms) ≡ noticesFor premise ms
+picked premise [] = refl
+picked premise (m ∷ ms) =
+    pick-append premise (rows (m .reply .sent) (m .after)) (rowsOf ms)
+    ∙ ap (λ (l : List (List ℕ)). withPremise premise (rows (m .reply .sent) (m .after)) ++ l) (picked premise ms)
+
+on-the-last-day : (t : List (List ℕ)) (answered : List ℕ) → Computed t answered → ((premise : ℕ) → ownOf premise t ≡ ownOf premise tape)
+    → OnTheLastDay t answered
+on-the-last-day t answered c agree ms fed p room =
+    record {
+      answers = buffers-dont-count [] 5000 t ms (plays [] (freshBook 5000) t) mine (by-definition t (c .allowed)) ∙ c .numbers;
+      of7 = noticed 7 (record { above = omega arith; below = omega arith }) ∙ computed .ruled .of7;
+      of5 = noticed 5 (record { above = omega arith; below = omega arith }) ∙ computed .ruled .of5;
+      of6 = noticed 6 (record { above = omega arith; below = omega arith }) ∙ computed .ruled .of6;
+      book = same .book ∙ computed .ruled .book;
+    }
+  where
+    mine : Plays [] 5000 t ms
+    mine = plays-of t ms fed p room (c .real) (c .few)
+
+    -- the first tape, played by definition
+    first : Plays [] 5000 tape (plays [] (freshBook 5000) tape)
+    first = by-definition tape (computed .first .allowed)
+
+    same : NobodySees 5000 ms (plays [] (freshBook 5000) tape)
+    same = nobody-sees [] 5000 t tape ms (plays [] (freshBook 5000) tape) mine first agree
+
+    noticed : (premise : ℕ) → Premise premise
+        → withPremise premise (rowsOf ms) ≡ ruledNotices (runs [] (startState 5000) (records (ownOf premise tape)))
+    noticed premise i =
+        picked premise ms ∙ same .notices premise i
+        ∙ plays-ruled [] 5000 premise tape tape (plays [] (freshBook 5000) tape) first refl i .notices
+
+-- ---- the three tapes have the same records for every premise
+record Agree (premise : ℕ) : Type 0 where
+  second : ownOf premise tape₂ ≡ ownOf premise tape
+  third : ownOf premise tape₃ ≡ ownOf premise tape
+
+agree : (premise : ℕ) → Agree premise
+unfolding reading wellFormed fieldOf create7 create5 switch7 switch5 scheduled7 scheduled5 mark retire6 oneByte tape tape₂ tape₃
+agree premise = go (eqb 7 premise) (eqb 5 premise) (eqb 6 premise) refl refl refl
+  where
+    go : (seven five six : Bool) → eqb 7 premise ≡ seven → eqb 5 premise ≡ five → eqb 6 premise ≡ six → Agree premise
+    go true true six a b c = absurd (omega (arith, eqb-true 7 premise a, eqb-true 5 premise b))
+    go true false true a b c = absurd (omega (arith, eqb-true 7 premise a, eqb-true 6 premise c))
+    go false true true a b c = absurd (omega (arith, eqb-true 5 premise b, eqb-true 6 premise c))
+    go true false false a b c = record { second = rw (a, b, c) refl; third = rw (a, b, c) refl }
+    go false true false a b c = record { second = rw (a, b, c) refl; third = rw (a, b, c) refl }
+    go false false true a b c = record { second = rw (a, b, c) refl; third = rw (a, b, c) refl }
+    go false false false a b c = record { second = rw (a, b, c) refl; third = rw (a, b, c) refl }
+
+pub last-day : LastDay
+last-day = record {
+  first = on-the-last-day tape answers₁ (computed .first) (λ premise. refl);
+  second = on-the-last-day tape₂ answers₂ (computed .second) (λ premise. agree premise .second);
+  third = on-the-last-day tape₃ answers₃ (computed .third) (λ premise. agree premise .third);
+}

@@ -29,13 +29,14 @@ use Rattle.book.specs.declared.Book.{Book}
 use Rattle.book.specs.Book.{freshBook, bookOf, bookKept, fileFor, putIn, takenOut}
 use Rattle.book.specs.Calls.{noticeBytes, callRows, call}
 use Rattle.demands.specs.Demand3.{Made, Played, lastBook, Premise, records, withPremise, noticesFor, ruledNotices}
-use Rattle.demands.specs.Sample.{lent, made, plays, allows}
+use Rattle.demands.specs.Sample.{lent, made, plays}
 use Rattle.demands.specs.Tapes.{tapeOf, Plays, ownOf}
 use Rattle.demands.specs.Rearranged.{NobodySees}
 use Rattle.demands.specs.LastDay.{create7, create5, switch7, switch5, scheduled7, scheduled5, mark, retire6, oneByte}
-use Rattle.demands.specs.LastDay.{notices7, notices5, switchOf, fileOf, rowsOf, OnTheLastDay, tape, answers₁, tape₂, answers₂, tape₃, answers₃, LastDay}
+use Rattle.demands.specs.LastDay.{notices7, notices5, switchOf, fileOf, rowsOf, OnTheLastDay, tape, answers₁}
+use Rattle.demands.specs.LastDay.{tape₂, answers₂, tape₃, answers₃, LastDay}
 use Rattle.demands.proofs.Picks.{pick-append}
-use Rattle.demands.proofs.Sample.{are-bytes, plays-played, plays-allowed}
+use Rattle.demands.proofs.Sample.{are-bytes, plays-played, room}
 use Rattle.demands.proofs.Tapes.{plays-ruled}
 use Rattle.demands.proofs.Rearranged.{nobody-sees}
 use Rattle.demands.proofs.Callers.{at-most-64-calls, buffers-dont-count}
@@ -44,7 +45,6 @@ use Rattle.demands.proofs.Callers.{at-most-64-calls, buffers-dont-count
 record Computed (tape : List (List ℕ)) (answered : List ℕ) : Type 0 where
   real : allOf (allOf (λ (x : ℕ). ltb x 256)) tape ≡ true
   few : length tape ≤ 64
-  allowed : allows [] (freshBook 5000) tape ≡ true
   numbers : map (λ (m : Made). number (m .reply .answer)) (plays [] (freshBook 5000) tape) ≡ answered
 
 record Ruled (tape : List (List ℕ)) : Type 0 where
@@ -65,12 +65,12 @@ unfolding reviewed permitAwaited cancelAwaited ticked contends switchOfDay gives
     permitOvertaken isDue lossNotice evaluation refuses standsInWay notFirstIn marked stepped step places number premiseRows orderRows
     requestedDay makeRoom ordered taken onScheduled onPermit onUnexecutable onRead supplied onCancel onReply onOrder changed orderKept
     isBlank fileKept fileBlank fieldOf encode wellFormed reading kindOfDay isBusinessDay switchDate businessDays inWindow bookOf
-    bookKept fileFor putIn takenOut callRows call lent made plays allows create7 create5 switch7 switch5 scheduled7 scheduled5 mark
+    bookKept fileFor putIn takenOut callRows call lent made plays create7 create5 switch7 switch5 scheduled7 scheduled5 mark
     retire6 oneByte notices7 notices5 tape tape₂ tape₃
 computed = record {
-  first = record { real = refl; few = omega arith; allowed = refl; numbers = refl };
-  second = record { real = refl; few = omega arith; allowed = refl; numbers = refl };
-  third = record { real = refl; few = omega arith; allowed = refl; numbers = refl };
+  first = record { real = refl; few = omega arith; numbers = refl };
+  second = record { real = refl; few = omega arith; numbers = refl };
+  third = record { real = refl; few = omega arith; numbers = refl };
   ruled = record { of7 = refl; of5 = refl; of6 = refl; book = refl };
 }
 
@@ -104,13 +104,15 @@ unfolding plays made
 fed-to calendar b [] = refl
 fed-to calendar b (bytes ∷ t) = ap (λ (l : List (List ℕ)). bytes ∷ l) (fed-to calendar (call calendar b bytes lent .book) t)
 
-by-definition : (t : List (List ℕ)) → allows [] (freshBook 5000) t ≡ true → Plays [] 5000 t (plays [] (freshBook 5000) t)
-by-definition t e =
-    record {
-      fed = fed-to [] (freshBook 5000) t;
-      played = plays-played [] (freshBook 5000) t;
-      allowed = plays-allowed [] (freshBook 5000) t e;
-    }
+rooms : (calendar : List ℕ) (b : Book) (t : List (List ℕ)) → Each (λ (m : Made). noticeBytes ≤ length (m .lent)) (plays calendar b t)
+unfolding plays made
+rooms calendar b [] = tt
+rooms calendar b (bytes ∷ t) = (room, rooms calendar (call calendar b bytes lent .book) t)
+
+by-definition : (t : List (List ℕ)) (answered : List ℕ) → Computed t answered → Plays [] 5000 t (plays [] (freshBook 5000) t)
+by-definition t answered c =
+    plays-of t (plays [] (freshBook 5000) t) (fed-to [] (freshBook 5000) t) (plays-played [] (freshBook 5000) t)
+    (rooms [] (freshBook 5000) t) (c .real) (c .few)
 
 -- ---- what comes back
 picked : (premise : ℕ) (ms : List Made) → withPremise premise (rowsOf ms) ≡ noticesFor premise ms
@@ -123,7 +125,7 @@ on-the-last-day : (t : List (List ℕ)) (answered : List ℕ) → Computed t ans
     → OnTheLastDay t answered
 on-the-last-day t answered c agree ms fed p room =
     record {
-      answers = buffers-dont-count [] 5000 t ms (plays [] (freshBook 5000) t) mine (by-definition t (c .allowed)) ∙ c .numbers;
+      answers = buffers-dont-count [] 5000 t ms (plays [] (freshBook 5000) t) mine (by-definition t answered c) ∙ c .numbers;
       of7 = noticed 7 (record { above = omega arith; below = omega arith }) ∙ computed .ruled .of7;
       of5 = noticed 5 (record { above = omega arith; below = omega arith }) ∙ computed .ruled .of5;
       of6 = noticed 6 (record { above = omega arith; below = omega arith }) ∙ computed .ruled .of6;
@@ -135,7 +137,7 @@ on-the-last-day t answered c agree ms fed p room =
 
     -- the first tape, played by definition
     first : Plays [] 5000 tape (plays [] (freshBook 5000) tape)
-    first = by-definition tape (computed .first .allowed)
+    first = by-definition tape answers₁ (computed .first)
 
     same : NobodySees 5000 ms (plays [] (freshBook 5000) tape)
     same = nobody-sees [] 5000 t tape ms (plays [] (freshBook 5000) tape) mine first agree

@@ -50,11 +50,11 @@ are-bytes (x ∷ xs) e =
     let rest : Bool = allOf (λ (y : ℕ). ltb y 256) xs in
     (ltb-true x 256 (and-left (ltb x 256) rest e), are-bytes xs (and-right (ltb x 256) rest e))
 
-room : noticeBytes ≤ length lent
+pub room : noticeBytes ≤ length lent
 unfolding lent
 room = lit≤ tt
 
-pub plays-allowed : (calendar : List ℕ) (b : Book) (tape : List (List ℕ)) → allows calendar b tape ≡ true
+plays-allowed : (calendar : List ℕ) (b : Book) (tape : List (List ℕ)) → allows calendar b tape ≡ true
     → AllAllowed b (plays calendar b tape)
 unfolding allows made plays
 plays-allowed calendar b [] e = tt

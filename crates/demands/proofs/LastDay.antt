@@ -1,18 +1,15 @@
 -- What comes back on the last day, from the demands: the calls that are played by definition stand for all that are made of their tape.
 -- Assumes nothing.
-use Prim.Native.Nat.{ℕ, _≤_}
-use mathlib.Core.Path.{_≡_, refl, ap, sym, subst, _∙_}
+use Prim.Native.Nat.{ℕ}
+use mathlib.Core.Path.{_≡_, refl, ap, _∙_}
 use mathlib.Core.List.{List, [], _∷_, _++_, map}
 use mathlib.Core.Bool.{Bool, true, false}
 use native.Mathlib.Omega.{arith}
-use lib.Dec.{eqb, ltb}
-use lib.ListN.{length, length-map}
+use lib.Dec.{eqb}
 use borrow.Author.Tests.{eqb-true}
-use Rattle.lists.specs.Search.{allOf, Each}
-use Rattle.lists.proofs.TestLaws.{and-left, and-right}
 use Rattle.days.specs.Days.{kindOfDay, isBusinessDay, switchDate}
 use Rattle.days.specs.Window.{businessDays, inWindow}
-use Rattle.records.specs.Layout.{Bytes, fieldOf}
+use Rattle.records.specs.Layout.{fieldOf}
 use Rattle.records.specs.Records.{wellFormed, reading}
 use Rattle.records.specs.Notices.{encode, rows}
 use Rattle.premise.specs.Orders.{places}
@@ -25,26 +22,24 @@ use Rattle.premise.specs.FirstIn.{refuses, standsInWay, notFirstIn}
 use Rattle.premise.specs.WellKept.{orderKept, isBlank, fileKept, fileBlank}
 use Rattle.premise.specs.Refusals.{number, premiseRows, orderRows}
 use Rattle.premise.specs.OnePremise.{marked, stepped, step, startState, runs}
-use Rattle.book.specs.declared.Book.{Book}
 use Rattle.book.specs.Book.{freshBook, bookOf, bookKept, fileFor, putIn, takenOut}
-use Rattle.book.specs.Calls.{noticeBytes, callRows, call}
-use Rattle.demands.specs.Demand3.{Made, Played, lastBook, Premise, records, withPremise, noticesFor, ruledNotices}
+use Rattle.book.specs.Calls.{callRows, call}
+use Rattle.demands.specs.Demand3.{Made, lastBook, Premise, records, withPremise, noticesFor, ruledNotices}
 use Rattle.demands.specs.Sample.{lent, made, plays}
-use Rattle.demands.specs.Tapes.{tapeOf, Plays, ownOf}
+use Rattle.demands.specs.Tapes.{Plays, ownOf}
 use Rattle.demands.specs.Rearranged.{NobodySees}
 use Rattle.demands.specs.LastDay.{create7, create5, switch7, switch5, scheduled7, scheduled5, mark, retire6, oneByte}
 use Rattle.demands.specs.LastDay.{notices7, notices5, switchOf, fileOf, rowsOf, OnTheLastDay, tape, answers₁}
 use Rattle.demands.specs.LastDay.{tape₂, answers₂, tape₃, answers₃, LastDay}
 use Rattle.demands.proofs.Picks.{pick-append}
-use Rattle.demands.proofs.Sample.{are-bytes, plays-played, room}
+use Rattle.demands.proofs.ByDefinition.{Short, short-plays, by-definition}
 use Rattle.demands.proofs.Tapes.{plays-ruled}
 use Rattle.demands.proofs.Rearranged.{nobody-sees}
-use Rattle.demands.proofs.Callers.{at-most-64-calls, buffers-dont-count}
+use Rattle.demands.proofs.Callers.{buffers-dont-count}
 
 -- ---- the tapes, computed: what the premises and the calls played by definition come to
 record Computed (tape : List (List ℕ)) (answered : List ℕ) : Type 0 where
-  real : allOf (allOf (λ (x : ℕ). ltb x 256)) tape ≡ true
-  few : length tape ≤ 64
+  short : Short tape
   numbers : map (λ (m : Made). number (m .reply .answer)) (plays [] (freshBook 5000) tape) ≡ answered
 
 record Ruled (tape : List (List ℕ)) : Type 0 where
@@ -68,51 +63,11 @@ unfolding reviewed permitAwaited cancelAwaited ticked contends switchOfDay gives
     bookKept fileFor putIn takenOut callRows call lent made plays create7 create5 switch7 switch5 scheduled7 scheduled5 mark
     retire6 oneByte notices7 notices5 tape tape₂ tape₃
 computed = record {
-  first = record { real = refl; few = omega arith; numbers = refl };
-  second = record { real = refl; few = omega arith; numbers = refl };
-  third = record { real = refl; few = omega arith; numbers = refl };
+  first = record { short = record { real = refl; few = omega arith }; numbers = refl };
+  second = record { short = record { real = refl; few = omega arith }; numbers = refl };
+  third = record { short = record { real = refl; few = omega arith }; numbers = refl };
   ruled = record { of7 = refl; of5 = refl; of6 = refl; book = refl };
 }
-
--- ---- calls of which nothing is known but their tape and their promises
-all-bytes : (t : List (List ℕ)) → allOf (allOf (λ (x : ℕ). ltb x 256)) t ≡ true → Each Bytes t
-all-bytes [] e = tt
-all-bytes (bytes ∷ t) e =
-    let first : Bool = allOf (λ (x : ℕ). ltb x 256) bytes in
-    let rest : Bool = allOf (allOf (λ (x : ℕ). ltb x 256)) t in
-    (are-bytes bytes (and-left first rest e), all-bytes t (and-right first rest e))
-
-of-made : (ms : List Made) → Each Bytes (tapeOf ms) → Each (λ (m : Made). Bytes (m .bytes)) ms
-of-made [] u = tt
-of-made (m ∷ ms) u = (u .0, of-made ms (u .1))
-
-plays-of : (t : List (List ℕ)) (ms : List Made) → tapeOf ms ≡ t → Played [] (freshBook 5000) ms
-    → Each (λ (m : Made). noticeBytes ≤ length (m .lent)) ms → allOf (allOf (λ (x : ℕ). ltb x 256)) t ≡ true → length t ≤ 64
-    → Plays [] 5000 t ms
-plays-of t ms fed p room real few =
-    record {
-      fed = fed;
-      played = p;
-      allowed =
-          at-most-64-calls [] 5000 ms p (of-made ms (subst (Each Bytes) (sym fed) (all-bytes t real))) room
-          (omega (arith, few, ap length fed, length-map ms (λ (m : Made). m .bytes)));
-    }
-
--- ---- the calls that are played by definition
-fed-to : (calendar : List ℕ) (b : Book) (t : List (List ℕ)) → tapeOf (plays calendar b t) ≡ t
-unfolding plays made
-fed-to calendar b [] = refl
-fed-to calendar b (bytes ∷ t) = ap (λ (l : List (List ℕ)). bytes ∷ l) (fed-to calendar (call calendar b bytes lent .book) t)
-
-rooms : (calendar : List ℕ) (b : Book) (t : List (List ℕ)) → Each (λ (m : Made). noticeBytes ≤ length (m .lent)) (plays calendar b t)
-unfolding plays made
-rooms calendar b [] = tt
-rooms calendar b (bytes ∷ t) = (room, rooms calendar (call calendar b bytes lent .book) t)
-
-by-definition : (t : List (List ℕ)) (answered : List ℕ) → Computed t answered → Plays [] 5000 t (plays [] (freshBook 5000) t)
-by-definition t answered c =
-    plays-of t (plays [] (freshBook 5000) t) (fed-to [] (freshBook 5000) t) (plays-played [] (freshBook 5000) t)
-    (rooms [] (freshBook 5000) t) (c .real) (c .few)
 
 -- ---- what comes back
 picked : (premise : ℕ) (ms : List Made) → withPremise premise (rowsOf ms) ≡ noticesFor premise ms
@@ -125,7 +80,7 @@ on-the-last-day : (t : List (List ℕ)) (answered : List ℕ) → Computed t ans
     → OnTheLastDay t answered
 on-the-last-day t answered c agree ms fed p room =
     record {
-      answers = buffers-dont-count [] 5000 t ms (plays [] (freshBook 5000) t) mine (by-definition t answered c) ∙ c .numbers;
+      answers = buffers-dont-count [] 5000 t ms (plays [] (freshBook 5000) t) mine (by-definition [] 5000 t (c .short)) ∙ c .numbers;
       of7 = noticed 7 (record { above = omega arith; below = omega arith }) ∙ computed .ruled .of7;
       of5 = noticed 5 (record { above = omega arith; below = omega arith }) ∙ computed .ruled .of5;
       of6 = noticed 6 (record { above = omega arith; below = omega arith }) ∙ computed .ruled .of6;
@@ -133,11 +88,11 @@ on-the-last-day t answered c agree ms fed p room =
     }
   where
     mine : Plays [] 5000 t ms
-    mine = plays-of t ms fed p room (c .real) (c .few)
+    mine = short-plays [] 5000 t ms (c .short) fed p room
 
     -- the first tape, played by definition
     first : Plays [] 5000 tape (plays [] (freshBook 5000) tape)
-    first = by-definition tape answers₁ (computed .first)
+    first = by-definition [] 5000 tape (computed .first .short)
 
     same : NobodySees 5000 ms (plays [] (freshBook 5000) tape)
     same = nobody-sees [] 5000 t tape ms (plays [] (freshBook 5000) tape) mine first agree

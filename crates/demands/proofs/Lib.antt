@@ -1,4 +1,5 @@
 pub mod Alone
+pub mod ByDefinition
 pub mod Callers
 pub mod Demand1
 pub mod Demand2

@@ -1,17 +1,13 @@
 -- The sample comes out as it must, and its shuffle goes through demand 3, whose premises can thus be met. Assumes nothing.
-use Prim.Native.Nat.{ℕ, _≤_}
+use Prim.Native.Nat.{ℕ}
 use mathlib.Core.Path.{_≡_, refl}
-use mathlib.Core.List.{List, [], _∷_}
-use mathlib.Core.Bool.{Bool, true, false, not}
+use mathlib.Core.Bool.{Bool, true, false}
 use native.Mathlib.Omega.{arith}
-use lib.Dec.{eqb, ltb, lit≤}
-use lib.ListN.{length}
-use borrow.Author.Tests.{eqb-true, ltb-true, not-true}
-use Rattle.lists.specs.Search.{allOf}
-use Rattle.lists.proofs.TestLaws.{and-left, and-right, pass-each}
+use lib.Dec.{eqb}
+use borrow.Author.Tests.{eqb-true}
 use Rattle.days.specs.Days.{kindOfDay, isBusinessDay, switchDate}
 use Rattle.days.specs.Window.{businessDays, inWindow}
-use Rattle.records.specs.Layout.{Bytes, fieldOf}
+use Rattle.records.specs.Layout.{fieldOf}
 use Rattle.records.specs.Records.{wellFormed, reading}
 use Rattle.records.specs.Notices.{encode}
 use Rattle.premise.specs.Orders.{places}
@@ -24,48 +20,14 @@ use Rattle.premise.specs.FirstIn.{refuses, standsInWay, notFirstIn}
 use Rattle.premise.specs.WellKept.{orderKept, isBlank, fileKept, fileBlank}
 use Rattle.premise.specs.Refusals.{number, premiseRows, orderRows}
 use Rattle.premise.specs.OnePremise.{marked, stepped, step}
-use Rattle.book.specs.declared.Book.{Book}
-use Rattle.book.specs.Book.{freshBook, bookOf, bookKept, fileFor, putIn, takenOut}
-use Rattle.book.specs.Calls.{noticeBytes, callRows, call, meetsRow6}
-use Rattle.demands.specs.Demand3.{Played, AllAllowed, Premise, ownBytes, SameBooks}
-use Rattle.demands.proofs.Demand3.{shuffle-proof}
-use Rattle.demands.specs.Sample.{lent, made, plays, allows, create7, create5, order7, order5, scheduled7, scheduled5, mark1}
+use Rattle.book.specs.Book.{bookOf, bookKept, fileFor, putIn, takenOut}
+use Rattle.book.specs.Calls.{callRows, call}
+use Rattle.demands.specs.Demand3.{Premise, ownBytes, SameBooks}
+use Rattle.demands.proofs.Demand3.{demand-3}
+use Rattle.demands.proofs.ByDefinition.{Short, by-definition}
+use Rattle.demands.specs.Sample.{lent, made, plays, create7, create5, order7, order5, scheduled7, scheduled5, mark1}
 use Rattle.demands.specs.Sample.{malformed, calendar, tape, sample, shuffled, again, ordered7, dated7, losing7, ordered5, dated5}
 use Rattle.demands.specs.Sample.{losing5, buffers, Comes}
-
--- each call of a list that is played keeps the record call's promise, whatever the records
-pub plays-played : (calendar : List ℕ) (b : Book) (tape : List (List ℕ)) → Played calendar b (plays calendar b tape)
-unfolding made plays
-plays-played calendar b [] = tt
-plays-played calendar b (bytes ∷ tape) = (
-  record { answer = refl; book = refl; notices = record { count = refl; bytes = refl } },
-  plays-played calendar
-      (call calendar b bytes lent .book) tape,
-)
-
--- .. and is allowed where the test says so
-pub are-bytes : (xs : List ℕ) → allOf (λ (x : ℕ). ltb x 256) xs ≡ true → Bytes xs
-are-bytes [] e = tt
-are-bytes (x ∷ xs) e =
-    let rest : Bool = allOf (λ (y : ℕ). ltb y 256) xs in
-    (ltb-true x 256 (and-left (ltb x 256) rest e), are-bytes xs (and-right (ltb x 256) rest e))
-
-pub room : noticeBytes ≤ length lent
-unfolding lent
-room = lit≤ tt
-
-plays-allowed : (calendar : List ℕ) (b : Book) (tape : List (List ℕ)) → allows calendar b tape ≡ true
-    → AllAllowed b (plays calendar b tape)
-unfolding allows made plays
-plays-allowed calendar b [] e = tt
-plays-allowed calendar b (bytes ∷ tape) e =
-    let real : Bool = allOf (λ (x : ℕ). ltb x 256) bytes in
-    let place : Bool = not (meetsRow6 b (reading bytes)) in
-    let rest : Bool = allows calendar (call calendar b bytes lent .book) tape in
-    let t = pass-each real (place ∷ rest ∷ []) e in (
-      record { real = are-bytes bytes (t .0); room = room; places = not-true (meetsRow6 b (reading bytes)) (t .1 .0) },
-      plays-allowed calendar (call calendar b bytes lent .book) tape (t .1 .1 .0),
-    )
 
 -- ---- the sample
 pub comes : Comes
@@ -74,7 +36,7 @@ unfolding reviewed permitAwaited cancelAwaited ticked contends switchOfDay gives
     requestedDay makeRoom ordered taken onScheduled onPermit onUnexecutable onRead supplied onCancel onReply onOrder changed orderKept
     isBlank fileKept fileBlank fieldOf encode wellFormed reading kindOfDay isBusinessDay switchDate businessDays inWindow bookOf
     bookKept fileFor putIn takenOut callRows call lent made plays create7 create5 order7 order5 scheduled7 scheduled5 mark1
-    malformed calendar tape sample shuffled again ordered7 dated7 losing7 ordered5 dated5 losing5 buffers allows
+    malformed calendar tape sample shuffled again ordered7 dated7 losing7 ordered5 dated5 losing5 buffers
 comes = record {
   answers7 = refl;
   answers5 = refl;
@@ -83,8 +45,6 @@ comes = record {
   notices5 = refl;
   notices6 = refl;
   all = refl;
-  allowed = refl;
-  allowed-again = refl;
 }
 
 -- ---- every premise has the same records in both lists, in the same order
@@ -100,12 +60,17 @@ agree premise i = go (eqb 7 premise) (eqb 5 premise) refl refl
     go false false a b = rw (a, b) refl
 
 -- so that demand 3 says of the two that they leave the same book
+record Shorts : Type 0 where
+  first : Short tape
+  second : Short shuffled
+
+shorts : Shorts
+unfolding create7 create5 order7 order5 scheduled7 scheduled5 mark1 malformed tape shuffled
+shorts = record { first = record { real = refl; few = omega arith }; second = record { real = refl; few = omega arith } }
+
 pub same : SameBooks 0 sample again
 unfolding sample again
 same =
-    shuffle-proof calendar 0 sample again
-    (plays-played calendar (freshBook 0) tape)
-    (plays-allowed calendar (freshBook 0) tape (comes .allowed))
-    (plays-played calendar (freshBook 0) shuffled)
-    (plays-allowed calendar (freshBook 0) shuffled (comes .allowed-again))
-    agree
+    let p = by-definition calendar 0 tape (shorts .first) in
+    let q = by-definition calendar 0 shuffled (shorts .second) in
+    demand-3 .shuffled calendar 0 sample again (p .played) (p .allowed) (q .played) (q .allowed) agree

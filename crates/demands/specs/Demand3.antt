@@ -128,11 +128,11 @@ pub record SameBooks (start : ℕ) (ms ns : List Made) : Type 0 where
 
 abbrev pub ShuffleProof : Type 0
 ShuffleProof =
-    (calendar : List ℕ) (start : ℕ) (ms ns : List Made)
-    → Played calendar (freshBook start) ms → AllAllowed (freshBook start) ms
-    → Played calendar (freshBook start) ns → AllAllowed (freshBook start) ns
-    → ((premise : ℕ) → Premise premise → ownBytes premise ms ≡ ownBytes premise ns)
-    → SameBooks start ms ns
+    (calendar : List ℕ) (start : ℕ) (one other : List Made)
+    → Played calendar (freshBook start) one → AllAllowed (freshBook start) one
+    → Played calendar (freshBook start) other → AllAllowed (freshBook start) other
+    → ((premise : ℕ) → Premise premise → ownBytes premise one ≡ ownBytes premise other)
+    → SameBooks start one other
 
 -- Demand 3, as one statement.
 pub record Demand3 : Type 0 where

@@ -2,16 +2,12 @@
 use Prim.Native.Nat.{ℕ, _*_}
 use mathlib.Core.Path.{_≡_}
 use mathlib.Core.List.{List, [], _∷_, _++_, map}
-use mathlib.Core.Bool.{Bool, true, not, _&&_}
-use lib.Dec.{ltb}
 use lib.ListN.{length, drop, replicate}
-use Rattle.lists.specs.Search.{allOf}
 use Rattle.records.specs.Layout.{recordLength}
-use Rattle.records.specs.Records.{reading}
 use Rattle.records.specs.Notices.{encodeAll, rows}
 use Rattle.book.specs.declared.Book.{Book}
 use Rattle.book.specs.Book.{freshBook}
-use Rattle.book.specs.Calls.{noticeBytes, Result, call, meetsRow6}
+use Rattle.book.specs.Calls.{noticeBytes, Result, call}
 use Rattle.demands.specs.Demand3.{Made, answers, noticesFor}
 
 -- a buffer of the shortest length that is taken
@@ -31,12 +27,6 @@ made bytes x =
 unfoldable pub plays : List ℕ → Book → List (List ℕ) → List Made
 plays calendar b [] = []
 plays calendar b (bytes ∷ tape) = let x = call calendar b bytes lent in made bytes x ∷ plays calendar (x .book) tape
-
--- whether every byte of the records is one and none meets row 6: what demand 3 asks of them
-unfoldable pub allows : List ℕ → Book → List (List ℕ) → Bool
-allows calendar b [] = true
-allows calendar b (bytes ∷ tape) =
-    allOf (λ (x : ℕ). ltb x 256) bytes && not (meetsRow6 b (reading bytes)) && allows calendar (call calendar b bytes lent .book) tape
 
 -- ---- the records
 -- create 7, retailer 101, and create 5, retailer 102, both on day 0
@@ -117,5 +107,3 @@ pub record Comes : Type 0 where
   pub notices6 : noticesFor 6 sample ≡ []
   pub all : buffers sample ≡ [] ∷ [] ∷ (ordered7 ∷ []) ∷ [] ∷ (ordered5 ∷ []) ∷ [] ∷ (dated5 ∷ []) ∷ (dated7 ∷ [])
       ∷ (losing5 ∷ losing7 ∷ []) ∷ [] ∷ []
-  pub allowed : allows calendar (freshBook 0) tape ≡ true
-  pub allowed-again : allows calendar (freshBook 0) shuffled ≡ true

@@ -35,7 +35,8 @@ are-bytes (x ∷ xs) e =
 all-bytes : (tape : List (List ℕ)) → allOf byteTest tape ≡ true → Each Bytes tape
 all-bytes [] e = tt
 all-bytes (bytes ∷ tape) e =
-    (are-bytes bytes (and-left (byteTest bytes) (allOf byteTest tape) e), all-bytes tape (and-right (byteTest bytes) (allOf byteTest tape) e))
+    let rest : Bool = allOf byteTest tape in
+    (are-bytes bytes (and-left (byteTest bytes) rest e), all-bytes tape (and-right (byteTest bytes) rest e))
 
 of-made : (ms : List Made) → Each Bytes (tapeOf ms) → Each (λ (m : Made). Bytes (m .bytes)) ms
 of-made [] u = tt

@@ -33,7 +33,7 @@ use Rattle.book.proofs.Keeps.{by-call, call-keeps}
 use Rattle.book.proofs.Few.{call-few}
 use Rattle.demands.specs.Demand3.{Made, Played, AllAllowed, Premise, concerns, answers}
 use Rattle.demands.specs.Tapes.{tapeOf}
-use Rattle.demands.specs.Callers.{InOrder, AcceptedInOrder, NothingFree, EachBufferKept, AtMost64Calls, BuffersDontCount}
+use Rattle.demands.specs.Callers.{InOrder, AcceptedInOrder, EachBufferKept, AtMost64Calls, BuffersDontCount}
 use Rattle.demands.proofs.Demand1.{zero-where-no-row}
 use Rattle.demands.proofs.Demand2.{demand-2}
 use Rattle.demands.proofs.OnWay.{SoundIn, sound}
@@ -68,15 +68,6 @@ accepted-in-order calendar b bytes before reply after p = (tells, follows)
 
     follows : InOrder calendar b bytes before → number (reply .answer) ≡ 0
     follows i = exactly .1 (rw (le-ltb (length before) noticeBytes (i .room), i .kept) (i .no-row))
-
-pub nothing-free : NothingFree
-nothing-free calendar b bytes before r r₂ after after₂ p q =
-    record {
-      answer = p .answer ∙ sym (q .answer);
-      sent = p .notices .count ∙ sym (q .notices .count);
-      book = p .book ∙ sym (q .book);
-      bytes = p .notices .bytes ∙ sym (q .notices .bytes);
-    }
 
 pub each-buffer-kept : EachBufferKept
 each-buffer-kept calendar b bytes before reply after p = record {

@@ -30,18 +30,6 @@ AcceptedInOrder =
     (calendar : List ℕ) (b : Book) (bytes before : List ℕ) (reply : Reply) (after : List ℕ)
     → Promised calendar b bytes before reply after → (number (reply .answer) ≡ 0) ↔ InOrder calendar b bytes before
 
--- Nothing that a call returns is left free: two replies that keep the promise of one call are one reply, with the same bytes.
-pub record OneReply (r r₂ : Reply) (after after₂ : List ℕ) : Type 0 where
-  pub answer : r .answer ≡ r₂ .answer
-  pub sent : r .sent ≡ r₂ .sent
-  pub book : r .book ≡ r₂ .book
-  pub bytes : after ≡ after₂
-
-abbrev pub NothingFree : Type 0
-NothingFree =
-    (calendar : List ℕ) (b : Book) (bytes before : List ℕ) (r r₂ : Reply) (after after₂ : List ℕ)
-    → Promised calendar b bytes before r after → Promised calendar b bytes before r₂ after₂ → OneReply r r₂ after after₂
-
 -- Whatever a call does, its buffer keeps its length, and the bytes behind the notices are those that were there.
 pub record BufferKept (before after : List ℕ) (n : ℕ) : Type 0 where
   pub rest : drop (recordLength * n) after ≡ drop (recordLength * n) before

@@ -1,7 +1,7 @@
 //! The book: today and up to 64 files, and the record call.
 
 use crate::answer::Answer;
-use crate::days::{Window, LAST_DAY, WINDOW};
+use crate::days::LAST_DAY;
 use crate::file::File;
 use crate::notice::{NoticeWriter, NOTICE_BUFFER_BYTES};
 use crate::premise;
@@ -38,13 +38,13 @@ impl Book {
     }
 
     /// The place of a premise's file, or the place where it would go.
-    fn place_of(&self, premise: u64) -> Result<usize, usize> {
+    pub fn place_of(&self, premise: u64) -> Result<usize, usize> {
         self.held()
             .binary_search_by_key(&premise, |file| file.premise)
     }
 
     /// Row 6, and then the file takes its place among the others.
-    fn insert(&mut self, place: usize, file: File) -> Result<(), Answer> {
+    pub fn insert(&mut self, place: usize, file: File) -> Result<(), Answer> {
         let count = usize::from(self.file_count);
         if count == FILES_A_BOOK {
             return Err(Answer::BookFull);
@@ -56,7 +56,7 @@ impl Book {
     }
 
     /// The file leaves the book and frees its place.
-    fn remove(&mut self, place: usize) {
+    pub fn remove(&mut self, place: usize) {
         let count = usize::from(self.file_count);
         self.files.copy_within(place + 1..count, place);
         self.files[count - 1] = File::EMPTY;
@@ -82,20 +82,6 @@ pub fn record_call(
     }
     if !is_well_kept(book) {
         return (Answer::BookNotWellKept, 0);
-    }
-    play(book, calendar, record, notices)
-}
-
-/// The record call without row 2's test, to measure what that test costs. The
-/// book has to be well kept: it panics or goes astray on one that is not.
-pub fn record_call_untested(
-    book: &mut Book,
-    calendar: &[u8],
-    record: &[u8],
-    notices: &mut [u8],
-) -> (Answer, usize) {
-    if notices.len() < NOTICE_BUFFER_BYTES {
-        return (Answer::BufferTooShort, 0);
     }
     play(book, calendar, record, notices)
 }
@@ -143,7 +129,7 @@ fn premise_record(
 }
 
 /// Record kind 10: today becomes the day, then each file in rising premise
-/// number. The window is looked for once, for all of them.
+/// number.
 fn day_mark(
     book: &mut Book,
     calendar: &[u8],
@@ -152,9 +138,8 @@ fn day_mark(
 ) -> Result<(), Answer> {
     premise::is_next_day(book.today, day)?;
     book.today = day;
-    let window = Window::new(calendar, day, WINDOW);
     for file in &mut book.files[..usize::from(book.file_count)] {
-        premise::day_mark(file, calendar, &window, notices);
+        premise::day_mark(file, calendar, day, notices);
     }
     Ok(())
 }

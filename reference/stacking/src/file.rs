@@ -43,16 +43,6 @@ impl File {
         }
     }
 
-    /// Is every field 0, those of all orders too?
-    pub fn is_empty(&self) -> bool {
-        let own = self.premise | u64::from(self.retailer) | u64::from(self.since);
-        (own | u64::from(self.order_count) == 0)
-            & self
-                .orders
-                .iter()
-                .fold(true, |so_far, order| so_far & order.is_empty())
-    }
-
     /// The held orders, oldest first. The count has to be in range.
     pub fn held(&self) -> &[Order] {
         &self.orders[..usize::from(self.order_count)]

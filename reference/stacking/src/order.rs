@@ -63,15 +63,6 @@ impl Order {
         told: 0,
     };
 
-    /// Is every field 0? One test over all of them, as it is made for every
-    /// unused place at every call.
-    pub fn is_empty(&self) -> bool {
-        let numbers = self.reference | self.retailer;
-        let days = self.requested_day | self.scheduled_day;
-        let bytes = self.kind | self.status | self.waited.0 | self.cancel_pending_for.0 | self.told;
-        numbers | u32::from(days) | u32::from(bytes) == 0
-    }
-
     pub fn is_open(&self) -> bool {
         matches!(self.status, status::IN_REVIEW..=status::CANCEL_PENDING)
     }

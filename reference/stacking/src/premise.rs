@@ -5,9 +5,7 @@
 
 use crate::answer::Answer;
 use crate::clock;
-use crate::days::{
-    is_business_day, is_day, switch_date, BusinessDays, CalendarDays, Window, NO_DAY, WINDOW,
-};
+use crate::days::{is_business_day, is_day, switch_date, BusinessDays, CalendarDays, NO_DAY};
 use crate::evaluation;
 use crate::file::{File, DE_ENERGIZED};
 use crate::first_in::not_first_in;
@@ -36,7 +34,7 @@ pub fn order_record(
     notices: &mut NoticeWriter,
 ) -> Result<(), Answer> {
     order_step(file, calendar, today, entry, notices)?;
-    evaluation::run(file, &Window::new(calendar, today, WINDOW), notices);
+    evaluation::run(file, calendar, today, notices);
     Ok(())
 }
 
@@ -231,11 +229,10 @@ fn cancel_rejected(file: &mut File, place: usize, notices: &mut NoticeWriter) {
     notices.write(Code::CancelRejected, file.premise, order, order.retailer);
 }
 
-/// Record kind 10 for one file, on the day that has just begun; the window is
-/// that day's.
-pub fn day_mark(file: &mut File, calendar: &[u8], window: &Window, notices: &mut NoticeWriter) {
-    clock::run(file, calendar, window.today, notices);
-    evaluation::run(file, window, notices);
+/// Record kind 10 for one file, on the day that has just begun.
+pub fn day_mark(file: &mut File, calendar: &[u8], today: u16, notices: &mut NoticeWriter) {
+    clock::run(file, calendar, today, notices);
+    evaluation::run(file, calendar, today, notices);
 }
 
 /// Row 15: a day mark brings the day after today.

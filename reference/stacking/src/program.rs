@@ -1,7 +1,13 @@
 //! What the programs share: arguments in, text out, and how they end.
 
-use std::io::{self, BufWriter, Read, Write};
+use crate::book::RecordCall;
+use crate::days::CALENDAR_BYTES;
+use crate::tape::{play_by, TAPE_BYTES};
+use std::fs::File;
+use std::io::{self, BufWriter, ErrorKind, Read, Write};
 use std::process::ExitCode;
+
+const CALENDAR: &str = "calendar.bin";
 
 /// The arguments of a program, taken one by one by their names.
 pub struct Arguments {
@@ -106,4 +112,26 @@ pub fn write_out(write: impl FnOnce(&mut dyn Write) -> io::Result<()>) -> Result
 /// Prints a text.
 pub fn print(text: &str) -> Result<(), String> {
     write_out(|out| out.write_all(text.as_bytes()))
+}
+
+/// Plays the tape on standard input with `calendar.bin` of the current folder.
+pub fn play_standard_input(call: RecordCall) -> Result<(), String> {
+    let calendar = read_calendar()?;
+    let tape = read_up_to(io::stdin().lock(), TAPE_BYTES).map_err(|error| {
+        format!("cannot read the tape from standard input: {error}; give a readable file or pipe")
+    })?;
+    write_out(|out| play_by(call, &calendar, &tape, out))
+}
+
+/// The calendar; an absent file counts as empty, an unreadable one is an error.
+fn read_calendar() -> Result<Vec<u8>, String> {
+    match File::open(CALENDAR).and_then(|file| read_up_to(file, CALENDAR_BYTES)) {
+        Err(error) if error.kind() == ErrorKind::NotFound => Ok(Vec::new()),
+        read => read.map_err(|error| {
+            format!(
+                "cannot read {CALENDAR} in the current folder: {error}; \
+                 make it a readable file, or remove it to play with an empty calendar"
+            )
+        }),
+    }
 }

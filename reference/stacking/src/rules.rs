@@ -3,7 +3,7 @@
 //! order, and nothing from a book.
 
 use crate::answer::Answer;
-use crate::days::{Window, LAST_DAY, WINDOW};
+use crate::days::LAST_DAY;
 use crate::file::{File, ORDERS_A_FILE};
 use crate::notice::NoticeWriter;
 use crate::premise;
@@ -95,7 +95,7 @@ impl OnePremise {
         premise::is_next_day(self.today, day)?;
         self.today = day;
         if let Some(file) = &mut self.file {
-            premise::day_mark(file, calendar, &Window::new(calendar, day, WINDOW), notices);
+            premise::day_mark(file, calendar, day, notices);
         }
         Ok(())
     }

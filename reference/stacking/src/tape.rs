@@ -35,8 +35,7 @@ pub fn play(calendar: &[u8], tape: &[u8], out: &mut dyn Write) -> io::Result<()>
     play_by(record_call, calendar, tape, out)
 }
 
-/// The same, by another record call: the one without row 2's test, to measure
-/// what that test costs.
+/// The same by another record call, such as the faster ones of `bench`.
 pub fn play_by(
     call: RecordCall,
     calendar: &[u8],

@@ -4,7 +4,7 @@ use crate::book::{Book, FILES_A_BOOK};
 use crate::clock::{CANCEL_PENDING_WAIT, LONGEST_WAIT};
 use crate::days::{is_day, CalendarDays, NO_DAY};
 use crate::file::{File, ORDERS_A_FILE};
-use crate::order::{kind, Order, LARGEST_RETAILER};
+use crate::order::{kind, status, Order, LARGEST_RETAILER};
 
 /// Every field in range, premises rising, references distinct in a file, the
 /// days and waits that go with each status, unused places zero.
@@ -14,10 +14,14 @@ pub fn is_well_kept(book: &Book) -> bool {
         return false;
     }
     let (held, unused) = book.files.split_at(count);
+    held.iter().all(file_is_well_kept)
+        && premises_rise(held)
+        && unused.iter().all(|place| *place == File::EMPTY)
+}
+
+fn premises_rise(held: &[File]) -> bool {
     held.windows(2)
         .all(|pair| pair[0].premise < pair[1].premise)
-        && held.iter().all(file_is_well_kept)
-        && unused.iter().all(File::is_empty)
 }
 
 fn file_is_well_kept(file: &File) -> bool {
@@ -26,32 +30,15 @@ fn file_is_well_kept(file: &File) -> bool {
         return false;
     }
     let (held, unused) = file.orders.split_at(count);
-    (file.premise != 0)
-        & (file.retailer <= LARGEST_RETAILER)
-        & is_day(file.since)
-        & all(held, order_is_well_kept)
-        & all(unused, Order::is_empty)
+    file.premise != 0
+        && file.retailer <= LARGEST_RETAILER
+        && is_day(file.since)
+        && held.iter().all(order_is_well_kept)
         && references_are_distinct(held)
+        && unused.iter().all(|place| *place == Order::EMPTY)
 }
 
-/// Tests all orders without stopping at the first that fails: this is done for
-/// every order at every call, and hardly ever does one fail.
-fn all(orders: &[Order], test: fn(&Order) -> bool) -> bool {
-    orders
-        .iter()
-        .fold(true, |so_far, order| so_far & test(order))
-}
-
-/// Most files give their references one after the other. Then the last six bits
-/// already tell them apart, and only where they don't are all pairs compared.
 fn references_are_distinct(held: &[Order]) -> bool {
-    let endings = held
-        .iter()
-        .fold(0u64, |seen, order| seen | 1 << (order.reference % 64));
-    endings.count_ones() as usize == held.len() || all_pairs_differ(held)
-}
-
-fn all_pairs_differ(held: &[Order]) -> bool {
     held.iter().enumerate().all(|(place, order)| {
         held[..place]
             .iter()
@@ -60,78 +47,35 @@ fn all_pairs_differ(held: &[Order]) -> bool {
 }
 
 fn order_is_well_kept(order: &Order) -> bool {
-    let status = &STATUSES[usize::from(order.status).min(STATUSES.len() - 1)];
+    order.reference != 0
+        && (kind::MOVE_IN..=kind::MASS_TRANSITION_DROP).contains(&order.kind)
+        && (1..=LARGEST_RETAILER).contains(&order.retailer)
+        && is_day(order.requested_day)
+        && scheduled_day_is_well_kept(order)
+        && (order.status != status::PERMIT_PENDING || order.kind == kind::MOVE_IN)
+        && order.waited <= LONGEST_WAIT
+        && order.cancel_pending_for <= longest_pending(order.status)
+        && order.told <= 1
+}
+
+/// The status is one, and SD goes with it.
+fn scheduled_day_is_well_kept(order: &Order) -> bool {
     let day = order.scheduled_day;
-    (order.reference != 0)
-        & (order.kind >= kind::MOVE_IN)
-        & (order.kind <= status.last_kind)
-        & (order.retailer != 0)
-        & (order.retailer <= LARGEST_RETAILER)
-        & is_day(order.requested_day)
-        & ((status.a_day & is_day(day)) | (status.no_day & (day == NO_DAY)))
-        & (order.waited <= LONGEST_WAIT)
-        & (order.cancel_pending_for <= status.longest_pending)
-        & (order.told <= 1)
+    match order.status {
+        status::IN_REVIEW | status::PERMIT_PENDING => day == NO_DAY,
+        status::SCHEDULED | status::COMPLETE => is_day(day),
+        status::CANCEL_PENDING | status::CANCELLED | status::UNEXECUTABLE => {
+            is_day(day) || day == NO_DAY
+        }
+        _ => false,
+    }
 }
 
-/// What goes with a status.
-struct Status {
-    /// May the scheduled day be a day?
-    a_day: bool,
-    /// May it be missing?
-    no_day: bool,
-    /// Kinds 1 to this one.
-    last_kind: u8,
-    /// The longest wait in Cancel Pending.
-    longest_pending: CalendarDays,
+/// One day short of the wait that ends Cancel Pending; in no other status is
+/// there such a wait.
+fn longest_pending(status: u8) -> CalendarDays {
+    match status {
+        status::CANCEL_PENDING => CalendarDays(CANCEL_PENDING_WAIT.0 - 1),
+        _ => CalendarDays(0),
+    }
 }
-
-const NO_STATUS: Status = Status {
-    a_day: false,
-    no_day: false,
-    last_kind: 0,
-    longest_pending: CalendarDays(0),
-};
-
-const WITHOUT_DAY: Status = Status {
-    no_day: true,
-    last_kind: kind::MASS_TRANSITION_DROP,
-    ..NO_STATUS
-};
-
-const WITH_DAY: Status = Status {
-    a_day: true,
-    last_kind: kind::MASS_TRANSITION_DROP,
-    ..NO_STATUS
-};
-
-const WITH_OR_WITHOUT: Status = Status {
-    a_day: true,
-    ..WITHOUT_DAY
-};
-
-/// The numbers 0 to 8; every larger one is no status either.
-const STATUSES: [Status; 9] = [
-    NO_STATUS,
-    // In Review
-    WITHOUT_DAY,
-    // Permit Pending: a move in
-    Status {
-        last_kind: kind::MOVE_IN,
-        ..WITHOUT_DAY
-    },
-    // Scheduled
-    WITH_DAY,
-    // Cancel Pending: one day short of the wait that ends it
-    Status {
-        longest_pending: CalendarDays(CANCEL_PENDING_WAIT.0 - 1),
-        ..WITH_OR_WITHOUT
-    },
-    // Complete
-    WITH_DAY,
-    // Cancelled
-    WITH_OR_WITHOUT,
-    // Unexecutable
-    WITH_OR_WITHOUT,
-    NO_STATUS,
-];

@@ -6,8 +6,6 @@ use std::process::{Command, Output};
 
 const RANDOMTAPE: &str = env!("CARGO_BIN_EXE_randomtape");
 const CALLCHECK: &str = env!("CARGO_BIN_EXE_callcheck");
-const BENCH: &str = env!("CARGO_BIN_EXE_bench");
-const TAPE: &str = env!("CARGO_BIN_EXE_tape");
 
 /// Runs a program with its arguments in one line.
 fn run(program: &str, arguments: &str, input: &[u8]) -> Output {
@@ -30,14 +28,6 @@ fn a_seed_gives_the_same_tape_again() {
     assert_eq!(tape, output(RANDOMTAPE, "--seed 5 --records 200", b""));
     assert_ne!(tape, output(RANDOMTAPE, "--seed 6 --records 200", b""));
     assert_eq!(tape.len().div_ceil(RECORD_BYTES), 200);
-}
-
-#[test]
-fn a_tape_prints_the_same_without_row_2s_test() {
-    for seed in 0..6 {
-        let tape = output(RANDOMTAPE, &format!("--seed {seed} --records 300"), b"");
-        assert_eq!(output(TAPE, "", &tape), output(TAPE, "--untested", &tape));
-    }
 }
 
 #[test]
@@ -123,53 +113,6 @@ fn a_call_that_breaks_off_is_an_error() {
 }
 
 #[test]
-fn the_measured_tapes_can_be_written_out() {
-    let place = folder("dump");
-    output(BENCH, &format!("--dump {}", place.display()), b"");
-    let lines = |name: &str| {
-        let read = |file: &str| std::fs::read(place.join(name).join(file)).unwrap();
-        played(&read("calendar.bin"), &read("tape.bin"))
-    };
-    assert!(lines("marks").ends_with("t 1896 0\n"));
-    let mixed = lines("mixed");
-    let last: Vec<u32> = mixed.lines().last().unwrap()[2..]
-        .split(' ')
-        .map(|number| number.parse().unwrap())
-        .collect();
-    assert_eq!(last[0] + last[1], 2_730);
-    assert!(last[0] > 2_500, "mostly accepted: {last:?}");
-}
-
-/// To the end of the tape of marks the orders keep the marks busy.
-#[test]
-fn the_marks_have_work_to_the_end() {
-    let place = folder("busy");
-    output(BENCH, &format!("--dump {}", place.display()), b"");
-    let read = |file: &str| std::fs::read(place.join("marks").join(file)).unwrap();
-    let lines = played(&read("calendar.bin"), &read("tape.bin"));
-    let mark = |place: usize| {
-        let start = format!("\n{place} 0 ");
-        let found = lines.find(&start).unwrap() + start.len();
-        lines[found..]
-            .lines()
-            .next()
-            .unwrap()
-            .parse::<u32>()
-            .unwrap()
-    };
-    // three drops of each file come to their end at the very last mark
-    assert_eq!(mark(1_896), 3 * 64);
-    let busy = (897..=1_896).filter(|&place| mark(place) > 0).count();
-    assert!(busy > 15, "{busy}");
-}
-
-#[test]
-fn bench_prints_a_best_and_a_median() {
-    let lines = text(BENCH, "--runs 1", b"");
-    assert_eq!(lines.matches("ns a record").count(), 6);
-}
-
-#[test]
 fn they_say_what_is_wrong_with_their_arguments() {
     for (program, arguments, hint) in [
         (RANDOMTAPE, "", "--seed"),
@@ -181,15 +124,13 @@ fn they_say_what_is_wrong_with_their_arguments() {
         (RANDOMTAPE, "--seed 1 --tape x", "--tape"),
         (CALLCHECK, "--make", "--seed and --count"),
         (CALLCHECK, "calls", "calls"),
-        (BENCH, "--runs 0", "at least 1"),
-        (BENCH, "fast", "fast"),
     ] {
         let output = run(program, arguments, b"");
         assert!(!output.status.success() && output.stdout.is_empty());
         let message = String::from_utf8(output.stderr).unwrap();
         assert!(message.contains(hint), "{message}");
     }
-    for program in [RANDOMTAPE, CALLCHECK, BENCH] {
+    for program in [RANDOMTAPE, CALLCHECK] {
         assert!(text(program, "--help", b"").contains("usage: "));
     }
 }

@@ -2,7 +2,7 @@
 
 use crate::support::*;
 use stacking::answer::Answer;
-use stacking::book::{record_call, record_call_untested, Book, FILES_A_BOOK};
+use stacking::book::{record_call, Book, FILES_A_BOOK};
 use stacking::file::ORDERS_A_FILE;
 use stacking::notice::NOTICE_BUFFER_BYTES;
 use stacking::record::{Entry, Fields, RECORD_BYTES};
@@ -53,14 +53,12 @@ fn a_mark_with_1024_notices_fills_the_buffer() {
 #[test]
 fn a_buffer_one_byte_short_is_refused() {
     let before = book_before_the_largest_mark();
-    for call in [record_call, record_call_untested] {
-        let mut book = before.clone();
-        let mut short = vec![PATTERN; NOTICE_BUFFER_BYTES - 1];
-        let outcome = call(&mut book, &business_days(), &mark(7), &mut short);
-        assert_eq!(outcome, (Answer::BufferTooShort, 0));
-        assert_eq!(book, before);
-        assert!(short.iter().all(|&byte| byte == PATTERN));
-    }
+    let mut book = before.clone();
+    let mut short = vec![PATTERN; NOTICE_BUFFER_BYTES - 1];
+    let outcome = record_call(&mut book, &business_days(), &mark(7), &mut short);
+    assert_eq!(outcome, (Answer::BufferTooShort, 0));
+    assert_eq!(book, before);
+    assert!(short.iter().all(|&byte| byte == PATTERN));
 }
 
 #[test]

@@ -2,15 +2,12 @@
 
 use crate::support::PATTERN;
 use stacking::answer::Answer;
-use stacking::book::{record_call, record_call_untested, Book};
-use stacking::days::{Window, WINDOW};
-use stacking::evaluation::{self, Candidates};
+use stacking::book::{record_call, Book};
 use stacking::file::File;
-use stacking::notice::NoticeWriter;
 use stacking::random::Random;
 use stacking::record::{decode, Record, RECORD_BYTES};
 use stacking::rules::OnePremise;
-use stacking::sample::{call, well_kept_book, Call};
+use stacking::sample::{call, Call};
 use stacking::well_kept::is_well_kept;
 use std::collections::BTreeSet;
 
@@ -21,9 +18,7 @@ struct Outcome {
     buffer: Vec<u8>,
 }
 
-type RecordCall = fn(&mut Book, &[u8], &[u8], &mut [u8]) -> (Answer, usize);
-
-fn made(call: &Call, record_call: RecordCall) -> Outcome {
+fn made(call: &Call) -> Outcome {
     let mut book = call.book.clone();
     let mut buffer = vec![PATTERN; call.buffer_length];
     let (answer, count) = record_call(&mut book, &call.calendar, &call.record, &mut buffer);
@@ -97,7 +92,7 @@ fn random_calls() {
     let mut answers = BTreeSet::new();
     for _ in 0..8_000 {
         let call = call(&mut random);
-        let outcome = made(&call, record_call);
+        let outcome = made(&call);
         assert_sound(&call, &outcome);
         assert_as_by_the_rules(&call, &outcome);
         assert_eq!(outcome.answer == Answer::BookNotWellKept, {
@@ -106,51 +101,4 @@ fn random_calls() {
         answers.insert(outcome.answer.number());
     }
     assert_eq!(Vec::from_iter(answers), Vec::from_iter(0..=15));
-}
-
-#[test]
-fn the_call_without_row_2_does_the_same_on_well_kept_books() {
-    let mut random = Random::new(3);
-    for _ in 0..2_000 {
-        let call = call(&mut random);
-        if is_well_kept(&call.book) {
-            let (tested, untested) = (made(&call, record_call), made(&call, record_call_untested));
-            assert_eq!(
-                (tested.answer, tested.count),
-                (untested.answer, untested.count)
-            );
-            assert!(tested.book == untested.book && tested.buffer == untested.buffer);
-        }
-    }
-}
-
-/// The evaluation looks first which orders each pass may be about; that must
-/// make no difference to four passes over all orders.
-#[test]
-fn the_evaluation_is_its_four_passes() {
-    let mut random = Random::new(4);
-    for _ in 0..2_000 {
-        let book = well_kept_book(&mut random);
-        let calendar = stacking::sample::calendar(&mut random);
-        let window = Window::new(&calendar, book.today, WINDOW);
-        for &file in book.held().iter().take(4) {
-            let by_run = evaluated(file, |file, notices| {
-                evaluation::run(file, &window, notices)
-            });
-            let by_passes = evaluated(file, |file, notices| {
-                let all = Candidates::all(file.held().len());
-                evaluation::keep_one_switch_a_day(file, &window, &all, notices);
-                evaluation::cancel_drops_beside_switches(file, &window, &all, notices);
-                evaluation::cancel_overtaken_permits(file, &window, &all, notices);
-                evaluation::tell_losing_retailer(file, &window, &all, notices);
-            });
-            assert_eq!(by_run, by_passes);
-        }
-    }
-}
-
-fn evaluated(mut file: File, evaluate: impl Fn(&mut File, &mut NoticeWriter)) -> (File, Vec<u8>) {
-    let mut buffer = [PATTERN; 16 * RECORD_BYTES];
-    evaluate(&mut file, &mut NoticeWriter::new(&mut buffer));
-    (file, buffer.to_vec())
 }

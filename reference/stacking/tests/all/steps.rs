@@ -1,7 +1,7 @@
 //! Each kind of record, the clock and the evaluation, sentence by sentence.
 
 use crate::support::*;
-use stacking::days::{is_business_day, switch_date, BusinessDays, CalendarDays, Window, WINDOW};
+use stacking::days::{in_window, is_business_day, switch_date, BusinessDays, CalendarDays};
 use stacking::order::{kind, status, Order};
 
 /// A desk on day 10 with one order in a status, scheduled for day 30 where the
@@ -36,9 +36,7 @@ fn no_day_lies_past_4095_however_long_the_calendar() {
     let mut calendar = vec![2; 5_000];
     calendar[4_096..].fill(0);
     assert_eq!(switch_date(&calendar, 4_000), None);
-    assert!(!is_business_day(&calendar, 4_096));
-    let window = Window::new(&calendar, 4_000, WINDOW);
-    assert!(window.holds(4_095) && !window.holds(NONE));
+    assert!(in_window(&calendar, 4_000, 4_095) && !in_window(&calendar, 4_000, NONE));
 }
 
 #[test]
@@ -47,12 +45,11 @@ fn the_window_is_what_the_document_says() {
         .map(|day| [0, 1, 0, 2, 2, 0, 7][usize::from(day) % 7])
         .collect();
     for today in 0..100 {
-        let window = Window::new(&calendar, today, WINDOW);
         let mut business_days_before = 0;
         for scheduled_day in 0..=4_095 {
             let expected = business_days_before <= 2;
             assert_eq!(
-                window.holds(scheduled_day),
+                in_window(&calendar, today, scheduled_day),
                 expected,
                 "{today} {scheduled_day}"
             );
@@ -60,7 +57,7 @@ fn the_window_is_what_the_document_says() {
                 business_days_before += 1;
             }
         }
-        assert!(!window.holds(NONE));
+        assert!(!in_window(&calendar, today, NONE));
     }
 }
 

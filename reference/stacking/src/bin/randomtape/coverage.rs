@@ -7,8 +7,8 @@
 use stacking::answer::Answer;
 use stacking::book::{record_call, Book};
 use stacking::clock::{self, LONGEST_WAIT, REVIEW_WAIT};
-use stacking::days::{is_business_day, switch_date, Window, WINDOW};
-use stacking::evaluation::{self, Candidates};
+use stacking::days::{is_business_day, switch_date};
+use stacking::evaluation;
 use stacking::file::File;
 use stacking::first_in;
 use stacking::notice::{NoticeWriter, NOTICE_BUFFER_BYTES};
@@ -56,12 +56,12 @@ const KINDS: [&str; 11] = [
 ];
 
 /// A pass of the evaluation.
-type Pass = fn(&mut File, &Window, &Candidates, &mut NoticeWriter);
+type Pass = fn(&mut File, &[u8], u16, &mut NoticeWriter);
 
 const PASS_STEPS: [Pass; 4] = [
     evaluation::keep_one_switch_a_day,
     evaluation::cancel_drops_beside_switches,
-    evaluation::cancel_overtaken_permits,
+    |file, _, today, notices| evaluation::cancel_overtaken_permits(file, today, notices),
     evaluation::tell_losing_retailer,
 ];
 
@@ -169,17 +169,16 @@ impl Coverage {
     fn count_steps(&mut self, before: &Book, calendar: &[u8], record: &Record) {
         match *record {
             Record::DayMark { day } => {
-                let window = Window::new(calendar, day, WINDOW);
                 for &file in before.held() {
                     let after_clock = self.count_clock(file, calendar, day);
-                    self.count_passes(after_clock, &window);
+                    self.count_passes(after_clock, calendar, day);
                 }
             }
             Record::OfPremise { entry, premise } => {
                 if let Entry::Order(entry) = entry {
                     let file = file_of(before, premise);
                     let after = self.count_record(file, calendar, before.today, entry);
-                    self.count_passes(after, &Window::new(calendar, before.today, WINDOW));
+                    self.count_passes(after, calendar, before.today);
                 }
             }
         }
@@ -212,11 +211,10 @@ impl Coverage {
         file
     }
 
-    fn count_passes(&mut self, mut file: File, window: &Window) {
-        let candidates = Candidates::of(&file, window);
+    fn count_passes(&mut self, mut file: File, calendar: &[u8], today: u16) {
         for (counts, pass) in self.passes.iter_mut().zip(PASS_STEPS) {
             let before = file;
-            with_writer(|notices| pass(&mut file, window, &candidates, notices));
+            with_writer(|notices| pass(&mut file, calendar, today, notices));
             counts[usize::from(file != before)] += 1;
         }
     }

@@ -1,11 +1,11 @@
-//! Measures the record call: nanoseconds a record, with and without row 2's test.
+//! Measures the fast record calls: nanoseconds a record, with and without row 2's test.
 
 #![forbid(unsafe_code)]
 
-mod tapes;
-
+use bench::book::{record_call, record_call_untested};
+use bench::tapes::{marks_tape, mixed_tape, Tape};
 use stacking::answer::Answer;
-use stacking::book::{record_call, record_call_untested, Book, RecordCall};
+use stacking::book::{Book, RecordCall};
 use stacking::notice::NOTICE_BUFFER_BYTES;
 use stacking::program::{self, Arguments};
 use stacking::record::RECORD_BYTES;
@@ -13,7 +13,6 @@ use std::hint::black_box;
 use std::path::Path;
 use std::process::ExitCode;
 use std::time::Instant;
-use tapes::{marks_tape, mixed_tape, Tape};
 
 const HELP: &str = "\
 bench: nanoseconds a record, with and without row 2's test

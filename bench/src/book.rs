@@ -1,0 +1,103 @@
+//! The fast record calls.
+
+use crate::evaluation;
+use crate::well_kept::is_well_kept;
+use crate::window::Window;
+use stacking::answer::Answer;
+use stacking::book::Book;
+use stacking::clock;
+use stacking::file::File;
+use stacking::notice::{NoticeWriter, NOTICE_BUFFER_BYTES};
+use stacking::premise;
+use stacking::record::{decode, Entry, Record};
+
+/// The record call, as [`stacking::book::record_call`].
+pub fn record_call(
+    book: &mut Book,
+    calendar: &[u8],
+    record: &[u8],
+    notices: &mut [u8],
+) -> (Answer, usize) {
+    if notices.len() < NOTICE_BUFFER_BYTES {
+        return (Answer::BufferTooShort, 0);
+    }
+    if !is_well_kept(book) {
+        return (Answer::BookNotWellKept, 0);
+    }
+    play(book, calendar, record, notices)
+}
+
+/// The record call without row 2's test. The book has to be well kept: it
+/// panics or goes astray on one that is not.
+pub fn record_call_untested(
+    book: &mut Book,
+    calendar: &[u8],
+    record: &[u8],
+    notices: &mut [u8],
+) -> (Answer, usize) {
+    if notices.len() < NOTICE_BUFFER_BYTES {
+        return (Answer::BufferTooShort, 0);
+    }
+    play(book, calendar, record, notices)
+}
+
+/// Rows 3 to 15 and the steps.
+fn play(book: &mut Book, calendar: &[u8], record: &[u8], notices: &mut [u8]) -> (Answer, usize) {
+    let mut notices = NoticeWriter::new(notices);
+    let result = match decode(record) {
+        None => Err(Answer::Malformed),
+        Some(Record::DayMark { day }) => day_mark(book, calendar, day, &mut notices),
+        Some(Record::OfPremise { premise, entry }) => {
+            premise_record(book, calendar, premise, entry, &mut notices)
+        }
+    };
+    match result {
+        Ok(()) => (Answer::Accepted, notices.count()),
+        Err(row) => (row, 0),
+    }
+}
+
+/// Record kinds 1 to 9.
+fn premise_record(
+    book: &mut Book,
+    calendar: &[u8],
+    premise: u64,
+    entry: Entry,
+    notices: &mut NoticeWriter,
+) -> Result<(), Answer> {
+    match (entry, book.place_of(premise)) {
+        (Entry::Create { .. }, Ok(_)) => Err(Answer::PremiseHeld),
+        (Entry::Create { since, retailer }, Err(place)) => {
+            book.insert(place, File::new(premise, retailer, since))
+        }
+        (_, Err(_)) => Err(Answer::NoSuchPremise),
+        (Entry::Retire, Ok(place)) => {
+            premise::may_retire(&book.files[place])?;
+            book.remove(place);
+            Ok(())
+        }
+        (Entry::Order(entry), Ok(place)) => {
+            let file = &mut book.files[place];
+            premise::order_step(file, calendar, book.today, entry, notices)?;
+            evaluation::run(file, &Window::new(calendar, book.today), notices);
+            Ok(())
+        }
+    }
+}
+
+/// Record kind 10. The window is looked for once, for all files.
+fn day_mark(
+    book: &mut Book,
+    calendar: &[u8],
+    day: u16,
+    notices: &mut NoticeWriter,
+) -> Result<(), Answer> {
+    premise::is_next_day(book.today, day)?;
+    book.today = day;
+    let window = Window::new(calendar, day);
+    for file in &mut book.files[..usize::from(book.file_count)] {
+        clock::run(file, calendar, day, notices);
+        evaluation::run(file, &window, notices);
+    }
+    Ok(())
+}

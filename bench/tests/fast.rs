@@ -7,7 +7,8 @@ use bench::well_kept::is_well_kept;
 use stacking::answer::Answer;
 use stacking::book::{Book, RecordCall};
 use stacking::random::Random;
-use stacking::sample::{self, call, damage, well_kept_book, Call, TapeOptions};
+use stacking::sample::{self, call, damage, well_kept_book, TapeOptions};
+use stacking::single_call::Call;
 use stacking::tape::play_by;
 use std::process::{Command, Output};
 

@@ -23,5 +23,7 @@ pub mod random;
 pub mod record;
 pub mod rules;
 pub mod sample;
+pub mod single_call;
+pub mod stored_calls;
 pub mod tape;
 pub mod well_kept;

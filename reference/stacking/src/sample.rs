@@ -10,7 +10,7 @@ mod tape;
 
 pub use book::{damage, well_kept_book};
 pub use calendar::calendar;
-pub use call::{call, Call};
+pub use call::call;
 pub use record::RecordMaker;
 pub use shuffle::shuffle;
 pub use tape::{tape, TapeOptions};

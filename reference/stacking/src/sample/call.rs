@@ -6,15 +6,7 @@ use crate::days::CALENDAR_BYTES;
 use crate::notice::NOTICE_BUFFER_BYTES;
 use crate::random::Random;
 use crate::record::Record;
-
-/// All that is lent to one record call.
-#[derive(Clone, Debug, PartialEq, Eq)]
-pub struct Call {
-    pub book: Book,
-    pub calendar: Vec<u8>,
-    pub record: Vec<u8>,
-    pub buffer_length: usize,
-}
+use crate::single_call::Call;
 
 /// A call on any book: mostly well kept, sometimes damaged; with a record that
 /// mostly suits it, sometimes of a wrong length; sometimes with too little room.

@@ -7,7 +7,8 @@ use stacking::file::File;
 use stacking::random::Random;
 use stacking::record::{decode, Record, RECORD_BYTES};
 use stacking::rules::OnePremise;
-use stacking::sample::{call, Call};
+use stacking::sample::call;
+use stacking::single_call::Call;
 use stacking::well_kept::is_well_kept;
 use std::collections::BTreeSet;
 

@@ -103,6 +103,14 @@ fn a_call_byte_by_byte() {
 }
 
 #[test]
+fn the_stored_calls_are_read_as_they_were_written() {
+    let names = text(CALLCHECK, "--names", b"");
+    let lines = text(CALLCHECK, "", &output(CALLCHECK, "--stored", b""));
+    let heads = lines.lines().filter(|line| line.starts_with("c "));
+    assert_eq!(heads.count(), names.lines().count());
+}
+
+#[test]
 fn a_call_that_breaks_off_is_an_error() {
     let calls = output(CALLCHECK, "--make --seed 9 --count 2", b"");
     let broken = run(CALLCHECK, "", &calls[..calls.len() - 1]);

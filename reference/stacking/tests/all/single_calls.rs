@@ -1,4 +1,5 @@
-//! Random single calls on well-kept books of all kinds and on damaged ones.
+//! Random single calls on well-kept books of all kinds and on damaged ones, and
+//! the stored ones.
 
 use crate::support::PATTERN;
 use stacking::answer::Answer;
@@ -9,6 +10,7 @@ use stacking::record::{decode, Record, RECORD_BYTES};
 use stacking::rules::OnePremise;
 use stacking::sample::call;
 use stacking::single_call::Call;
+use stacking::stored_calls;
 use stacking::well_kept::is_well_kept;
 use std::collections::BTreeSet;
 
@@ -100,6 +102,31 @@ fn random_calls() {
             call.buffer_length >= 24_576 && !is_well_kept(&call.book)
         });
         answers.insert(outcome.answer.number());
+    }
+    assert_eq!(Vec::from_iter(answers), Vec::from_iter(0..=15));
+}
+
+/// A stored call is what its name says: one that begins with a row is answered
+/// by that row, and one that says `well kept` is accepted.
+#[test]
+fn stored_calls_do_what_they_are_called() {
+    let calls = stored_calls::all();
+    let names: BTreeSet<&str> = calls.iter().map(|stored| stored.name).collect();
+    assert!(calls.len() >= 100 && names.len() == calls.len());
+    let mut answers = BTreeSet::new();
+    for stored in &calls {
+        let outcome = made(&stored.call);
+        assert_sound(&stored.call, &outcome);
+        assert_as_by_the_rules(&stored.call, &outcome);
+        let answer = outcome.answer.number();
+        let name = stored.name;
+        if let Some(rest) = name.strip_prefix("row ") {
+            let digits: String = rest.chars().take_while(char::is_ascii_digit).collect();
+            assert_eq!(digits, answer.to_string(), "{name}");
+        } else if name.starts_with("well kept") {
+            assert_eq!(answer, 0, "{name}");
+        }
+        answers.insert(answer);
     }
     assert_eq!(Vec::from_iter(answers), Vec::from_iter(0..=15));
 }

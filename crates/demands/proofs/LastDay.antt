@@ -1,7 +1,7 @@
 -- What comes back on the last day, from the demands: the calls that are played by definition stand for all that are made of their tape.
 -- Assumes nothing.
 use Prim.Native.Nat.{ℕ}
-use mathlib.Core.Path.{_≡_, refl, ap, _∙_}
+use mathlib.Core.Path.{_≡_, refl, ap, sym, _∙_}
 use mathlib.Core.List.{List, [], _∷_, _++_, map}
 use mathlib.Core.Bool.{Bool, true, false}
 use native.Mathlib.Omega.{arith}
@@ -33,7 +33,7 @@ use Rattle.demands.specs.LastDay.{notices7, notices5, switchOf, fileOf, 
 use Rattle.demands.specs.LastDay.{tape₂, answers₂, tape₃, answers₃, LastDay}
 use Rattle.demands.proofs.Picks.{pick-append}
 use Rattle.demands.proofs.ByDefinition.{Short, short-plays, by-definition}
-use Rattle.demands.proofs.Tapes.{plays-ruled}
+use Rattle.demands.proofs.Tapes.{Marked, keptOf, own-marked, plays-ruled}
 use Rattle.demands.proofs.Rearranged.{nobody-sees}
 use Rattle.demands.proofs.Callers.{buffers-dont-count}
 
@@ -104,26 +104,60 @@ on-the-last-day t answered c agree ms fed p room =
         ∙ plays-ruled [] 5000 premise tape tape (plays [] (freshBook 5000) tape) first refl i .notices
 
 -- ---- the three tapes have the same records for every premise
-record Agree (premise : ℕ) : Type 0 where
-  second : ownOf premise tape₂ ≡ ownOf premise tape
-  third : ownOf premise tape₃ ≡ ownOf premise tape
+-- which records of a tape concern a premise, by whether it is 7, 5 or 6
+abbrev marks : Bool → Bool → Bool → List Bool
+marks seven five six = seven ∷ five ∷ seven ∷ seven ∷ false ∷ five ∷ seven ∷ true ∷ six ∷ five ∷ []
 
-agree : (premise : ℕ) → Agree premise
+abbrev marks₂ : Bool → Bool → Bool → List Bool
+marks₂ seven five six = five ∷ five ∷ seven ∷ seven ∷ seven ∷ seven ∷ true ∷ five ∷ false ∷ six ∷ []
+
+abbrev marks₃ : Bool → Bool → Bool → List Bool
+marks₃ seven five six = false ∷ seven ∷ seven ∷ five ∷ seven ∷ seven ∷ five ∷ true ∷ six ∷ five ∷ false ∷ []
+
+record AllMarked (premise : ℕ) : Type 0 where
+  first : Marked premise tape (marks (eqb 7 premise) (eqb 5 premise) (eqb 6 premise))
+  second : Marked premise tape₂ (marks₂ (eqb 7 premise) (eqb 5 premise) (eqb 6 premise))
+  third : Marked premise tape₃ (marks₃ (eqb 7 premise) (eqb 5 premise) (eqb 6 premise))
+
+marked-all : (premise : ℕ) → AllMarked premise
 unfolding reading wellFormed fieldOf create7 create5 switch7 switch5 scheduled7 scheduled5 mark retire6 oneByte tape tape₂ tape₃
+marked-all premise = record {
+  first = (refl, (refl, (refl, (refl, (refl, (refl, (refl, (refl, (refl, (refl, tt))))))))));
+  second = (refl, (refl, (refl, (refl, (refl, (refl, (refl, (refl, (refl, (refl, tt))))))))));
+  third = (refl, (refl, (refl, (refl, (refl, (refl, (refl, (refl, (refl, (refl, (refl, tt)))))))))));
+}
+
+record Agree (seven five six : Bool) : Type 0 where
+  second : keptOf (marks₂ seven five six) tape₂ ≡ keptOf (marks seven five six) tape
+  third : keptOf (marks₃ seven five six) tape₃ ≡ keptOf (marks seven five six) tape
+
+agree : (premise : ℕ) → Agree (eqb 7 premise) (eqb 5 premise) (eqb 6 premise)
+unfolding tape tape₂ tape₃
 agree premise = go (eqb 7 premise) (eqb 5 premise) (eqb 6 premise) refl refl refl
   where
-    go : (seven five six : Bool) → eqb 7 premise ≡ seven → eqb 5 premise ≡ five → eqb 6 premise ≡ six → Agree premise
+    go : (seven five six : Bool) → eqb 7 premise ≡ seven → eqb 5 premise ≡ five → eqb 6 premise ≡ six → Agree seven five six
     go true true six a b c = absurd (omega (arith, eqb-true 7 premise a, eqb-true 5 premise b))
     go true false true a b c = absurd (omega (arith, eqb-true 7 premise a, eqb-true 6 premise c))
     go false true true a b c = absurd (omega (arith, eqb-true 5 premise b, eqb-true 6 premise c))
-    go true false false a b c = record { second = rw (a, b, c) refl; third = rw (a, b, c) refl }
-    go false true false a b c = record { second = rw (a, b, c) refl; third = rw (a, b, c) refl }
-    go false false true a b c = record { second = rw (a, b, c) refl; third = rw (a, b, c) refl }
-    go false false false a b c = record { second = rw (a, b, c) refl; third = rw (a, b, c) refl }
+    go true false false a b c = record { second = refl; third = refl }
+    go false true false a b c = record { second = refl; third = refl }
+    go false false true a b c = record { second = refl; third = refl }
+    go false false false a b c = record { second = refl; third = refl }
+
+own : (premise : ℕ) (t : List (List ℕ)) (ofTape : Bool → Bool → Bool → List Bool)
+    → Marked premise t (ofTape (eqb 7 premise) (eqb 5 premise) (eqb 6 premise))
+    → keptOf (ofTape (eqb 7 premise) (eqb 5 premise) (eqb 6 premise)) t
+    ≡ keptOf (marks (eqb 7 premise) (eqb 5 premise) (eqb 6 premise)) tape
+    → ownOf premise t ≡ ownOf premise tape
+own premise t ofTape m e =
+    own-marked premise t (ofTape (eqb 7 premise) (eqb 5 premise) (eqb 6 premise)) m ∙ e
+    ∙ sym (own-marked premise tape (marks (eqb 7 premise) (eqb 5 premise) (eqb 6 premise)) (marked-all premise .first))
 
 pub last-day : LastDay
 last-day = record {
   first = on-the-last-day tape answers₁ (computed .first) (λ premise. refl);
-  second = on-the-last-day tape₂ answers₂ (computed .second) (λ premise. agree premise .second);
-  third = on-the-last-day tape₃ answers₃ (computed .third) (λ premise. agree premise .third);
+  second = on-the-last-day tape₂ answers₂ (computed .second)
+      (λ premise. own premise tape₂ marks₂ (marked-all premise .second) (agree premise .second));
+  third = on-the-last-day tape₃ answers₃ (computed .third)
+      (λ premise. own premise tape₃ marks₃ (marked-all premise .third) (agree premise .third));
 }

@@ -1,6 +1,7 @@
 -- The sample comes out as it must, and its shuffle goes through demand 3, whose premises can thus be met. Assumes nothing.
 use Prim.Native.Nat.{ℕ}
-use mathlib.Core.Path.{_≡_, refl}
+use mathlib.Core.Path.{_≡_, refl, ap, sym, _∙_}
+use mathlib.Core.List.{List, [], _∷_}
 use mathlib.Core.Bool.{Bool, true, false}
 use native.Mathlib.Omega.{arith}
 use lib.Dec.{eqb}
@@ -22,8 +23,10 @@ use Rattle.premise.specs.Refusals.{number, premiseRows, orderRows}
 use Rattle.premise.specs.OnePremise.{marked, stepped, step}
 use Rattle.book.specs.Book.{bookOf, bookKept, fileFor, putIn, takenOut}
 use Rattle.book.specs.Calls.{callRows, call}
-use Rattle.demands.specs.Demand3.{Premise, ownBytes, SameBooks}
+use Rattle.demands.specs.Demand3.{SameBooks}
+use Rattle.demands.specs.Tapes.{ownOf}
 use Rattle.demands.proofs.Demand3.{demand-3}
+use Rattle.demands.proofs.Tapes.{own-of-made, Marked, keptOf, own-marked}
 use Rattle.demands.proofs.ByDefinition.{Short, by-definition}
 use Rattle.demands.specs.Sample.{lent, made, plays, create7, create5, order7, order5, scheduled7, scheduled5, mark1}
 use Rattle.demands.specs.Sample.{malformed, calendar, tape, sample, shuffled, again, ordered7, dated7, losing7, ordered5, dated5}
@@ -48,16 +51,39 @@ comes = record {
 }
 
 -- ---- every premise has the same records in both lists, in the same order
-agree : (premise : ℕ) → Premise premise → ownBytes premise sample ≡ ownBytes premise again
-unfolding reading wellFormed fieldOf plays made create7 create5 order7 order5 scheduled7 scheduled5 mark1 malformed tape shuffled sample
-    again
-agree premise i = go (eqb 7 premise) (eqb 5 premise) refl refl
+-- which records concern a premise, by whether it is 7 or 5
+abbrev marks : Bool → Bool → List Bool
+marks seven five = seven ∷ five ∷ seven ∷ seven ∷ five ∷ false ∷ five ∷ seven ∷ true ∷ true ∷ []
+
+abbrev marks₂ : Bool → Bool → List Bool
+marks₂ seven five = five ∷ five ∷ seven ∷ false ∷ false ∷ seven ∷ five ∷ seven ∷ seven ∷ true ∷ true ∷ []
+
+record BothMarked (premise : ℕ) : Type 0 where
+  first : Marked premise tape (marks (eqb 7 premise) (eqb 5 premise))
+  second : Marked premise shuffled (marks₂ (eqb 7 premise) (eqb 5 premise))
+
+marked-both : (premise : ℕ) → BothMarked premise
+unfolding reading wellFormed fieldOf create7 create5 order7 order5 scheduled7 scheduled5 mark1 malformed tape shuffled
+marked-both premise = record {
+  first = (refl, (refl, (refl, (refl, (refl, (refl, (refl, (refl, (refl, (refl, tt))))))))));
+  second = (refl, (refl, (refl, (refl, (refl, (refl, (refl, (refl, (refl, (refl, (refl, tt)))))))))));
+}
+
+kept-same : (premise : ℕ) → keptOf (marks (eqb 7 premise) (eqb 5 premise)) tape ≡ keptOf (marks₂ (eqb 7 premise) (eqb 5 premise)) shuffled
+unfolding tape shuffled
+kept-same premise = go (eqb 7 premise) (eqb 5 premise) refl refl
   where
-    go : (seven five : Bool) → eqb 7 premise ≡ seven → eqb 5 premise ≡ five → ownBytes premise sample ≡ ownBytes premise again
+    go : (seven five : Bool) → eqb 7 premise ≡ seven → eqb 5 premise ≡ five
+        → keptOf (marks seven five) tape ≡ keptOf (marks₂ seven five) shuffled
     go true true a b = absurd (omega (arith, eqb-true 7 premise a, eqb-true 5 premise b))
-    go true false a b = rw (a, b) refl
-    go false true a b = rw (a, b) refl
-    go false false a b = rw (a, b) refl
+    go true false a b = refl
+    go false true a b = refl
+    go false false a b = refl
+
+agree : (premise : ℕ) → ownOf premise tape ≡ ownOf premise shuffled
+agree premise =
+    own-marked premise tape (marks (eqb 7 premise) (eqb 5 premise)) (marked-both premise .first) ∙ kept-same premise
+    ∙ sym (own-marked premise shuffled (marks₂ (eqb 7 premise) (eqb 5 premise)) (marked-both premise .second))
 
 -- so that demand 3 says of the two that they leave the same book
 record Shorts : Type 0 where
@@ -73,4 +99,6 @@ unfolding sample again
 same =
     let p = by-definition calendar 0 tape (shorts .first) in
     let q = by-definition calendar 0 shuffled (shorts .second) in
-    demand-3 .shuffled calendar 0 sample again (p .played) (p .allowed) (q .played) (q .allowed) agree
+    demand-3 .shuffled calendar 0 sample again (p .played) (p .allowed) (q .played) (q .allowed) (λ premise i.
+    own-of-made premise sample ∙ ap (ownOf premise) (p .fed) ∙ agree premise
+    ∙ sym (own-of-made premise again ∙ ap (ownOf premise) (q .fed)))

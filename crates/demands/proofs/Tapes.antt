@@ -35,6 +35,25 @@ own-append premise (x ∷ xs) ys = go (concerns premise (reading x)) (own-append
     go true ih = ap (λ (l : List (List ℕ)). x ∷ l) ih
     go false ih = ih
 
+-- what concerns a premise, by a mark for each record of a tape whether it does
+abbrev pub Marked : ℕ → List (List ℕ) → List Bool → Type 0
+Marked premise [] marks = Unit {0}
+Marked premise (bytes ∷ tape) [] = ⊥
+Marked premise (bytes ∷ tape) (c ∷ marks) = (concerns premise (reading bytes) ≡ c) × Marked premise tape marks
+
+abbrev pub keptOf : List Bool → List (List ℕ) → List (List ℕ)
+keptOf marks [] = []
+keptOf [] (bytes ∷ tape) = []
+keptOf (c ∷ marks) (bytes ∷ tape) = cond c (bytes ∷ keptOf marks tape) (keptOf marks tape)
+
+pub own-marked : (premise : ℕ) (tape : List (List ℕ)) (marks : List Bool) → Marked premise tape marks
+    → ownOf premise tape ≡ keptOf marks tape
+own-marked premise [] marks m = refl
+own-marked premise (bytes ∷ tape) [] m = absurd m
+own-marked premise (bytes ∷ tape) (c ∷ marks) m =
+    ap (λ (d : Bool). cond d (bytes ∷ ownOf premise tape) (ownOf premise tape)) (m .0)
+    ∙ ap (λ (l : List (List ℕ)). cond c (bytes ∷ l) l) (own-marked premise tape marks (m .1))
+
 module _ (calendar : List ℕ) (start premise : ℕ) where
   -- from the records that calls were made on to a tape that agrees with them on the premise
   pub ruled-of : (tape : List (List ℕ)) (ms : List Made) → ownBytes premise ms ≡ ownOf premise tape → AsRuled calendar start premise ms

@@ -1,15 +1,15 @@
--- The records of a tape that are left: none, or one and the others; and the bytes of that one as the code lends them. Assumes nothing.
-use Prim.Native.Nat.{ℕ, zero, suc, _+_, _*_, _-_, _≤_, _<_, min}
-use mathlib.Core.Path.{_≡_, refl, sym, ap, ap₂, _∙_}
+-- The records of a tape that are left: none, or one and the others; and the first of them. Assumes nothing.
+use Prim.Native.Nat.{ℕ, zero, suc, _+_, _*_, _-_, _≤_, _<_}
+use mathlib.Core.Path.{_≡_, refl, ap, ap₂, _∙_}
 use mathlib.Core.List.{List, [], _∷_}
 use native.Mathlib.Omega.{arith}
 use lib.ListN.{length, take, drop, length-drop}
-use lib.Seq.{take-nil, drop-drop}
+use lib.Seq.{drop-drop}
 use Rattle.lists.proofs.Find.{drop-none}
 use Rattle.records.specs.Layout.{recordLength}
+use Rattle.book.specs.CallsInRow.{recordsOf}
 use Rattle.tape_reader.specs.Counts.{mostRecords}
 use Rattle.tape_output.specs.declared.Playing.{Playing}
-use Rattle.tape_output.specs.Output.{recordsOf}
 use Rattle.tape_output.specs.Stretches.{left}
 
 -- ---- the records of some bytes
@@ -29,6 +29,16 @@ records-next (suc most) [] h k = absurd (omega arith)
 records-next (suc most) (byte ∷ tape) h k =
     let e : most ≡ suc most - 1 = omega arith in
     ap (λ (m : ℕ). take recordLength (byte ∷ tape) ∷ recordsOf m (drop recordLength (byte ∷ tape))) e
+
+-- the first records of bytes that have no more than so many
+pub records-part : (many most : ℕ) (tape : List ℕ) → length tape ≤ recordLength * most → take many (recordsOf most tape) ≡ recordsOf many tape
+records-part zero most tape h = refl
+records-part (suc many) zero [] h = refl
+records-part (suc many) zero (byte ∷ tape) h = absurd (omega arith)
+records-part (suc many) (suc most) [] h = refl
+records-part (suc many) (suc most) (byte ∷ tape) h =
+    ap (λ (l : List (List ℕ)). take recordLength (byte ∷ tape) ∷ l)
+    (records-part many most (drop recordLength (byte ∷ tape)) (omega (arith, length-drop recordLength (byte ∷ tape))))
 
 record First (most : ℕ) (tape : List ℕ) (others : List (List ℕ)) : Type 0 where
   some : 0 < most
@@ -73,15 +83,3 @@ pub left-first : (p q : Playing) (tape bytes : List ℕ) (others : List (List �
 left-first p q tape bytes others e is =
     let f = records-first (mostRecords - p .reader .place) (drop (recordLength * p .reader .place) tape) bytes others is in
     record { some = omega (arith, f .some); rest = f .rest ∙ on (p .reader .place) (q .reader .place) tape e }
-
--- ---- a record's bytes, of which the last may have fewer than 24
-take-within : {X : Type 0} (m n : ℕ) (l : List X) → min m (length l) ≡ min n (length l) → take m l ≡ take n l
-take-within m n [] e = take-nil m ∙ sym (take-nil n)
-take-within zero zero (x ∷ l) e = refl
-take-within zero (suc n) (x ∷ l) e = absurd (omega arith)
-take-within (suc m) zero (x ∷ l) e = absurd (omega arith)
-take-within {X} (suc m) (suc n) (x ∷ l) e = ap (λ (k : List X). x ∷ k) (take-within m n l (omega arith))
-
-pub lent-record : (tape : List ℕ) (from to : ℕ) → to ≡ min (from + recordLength) (length tape)
-    → take (to - from) (drop from tape) ≡ take recordLength (drop from tape)
-lent-record tape from to e = take-within (to - from) recordLength (drop from tape) (omega (arith, length-drop from tape))

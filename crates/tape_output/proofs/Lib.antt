@@ -1,4 +1,5 @@
 pub mod Calls
+pub mod Courses
 pub mod Left
 pub mod LineLengths
 pub mod Lines

@@ -3,10 +3,9 @@
 use Prim.Native.Nat.{_-_}
 use native.Mathlib.Omega.{arith}
 use lib.ListN.{length-take, length-drop}
-use Rattle.records.proofs.Fields.{bytes-each}
-use Rattle.tape_player.proofs.record_text.Listed.{Listed, listed-none, listed-length, listed-room, listed-more, listed-all}
-use Rattle.tape_player.proofs.record_text.put_notices.Statement.{statement}
-use Rattle.tape_player.proofs.record_text.put_notices.Tie as tie
+use Rattle.tape_player.proofs.stretch_text.Listed.{Listed, listed-none, listed-length, listed-room, listed-more, listed-all}
+use Rattle.tape_player.proofs.stretch_text.put_notices.Statement.{statement}
+use Rattle.tape_player.proofs.stretch_text.put_notices.Tie as tie
 
 abbrev Inv-loop : tie.InvT-loop
 Inv-loop notices n start out₀ at₀ i₀ out at i = Listed notices n start out₀ out at i
@@ -18,8 +17,7 @@ loop-holds : tie.Need-loop-holds Inv-loop μ-loop
 loop-holds c =
     let s = c .before .before in
     let a = s .args in
-    listed-none (a .notices .now) (a .n) (a .start) (a .out .now)
-    (bytes-each (a .notices .now) (λ i. omega (arith, c .before .shared-slice-known .given i))) (s .pre .1)
+    listed-none (a .notices .now) (a .n) (a .start) (a .out .now) (s .pre .1)
 
 mul-from : tie.Need-mul-from Inv-loop μ-loop
 mul-from c = omega arith

@@ -5,13 +5,11 @@ use mathlib.Core.List.{List, _∷_}
 use native.Mathlib.Omega.{arith}
 use lib.ListN.{length, take, drop}
 use lib.Seq.{drop-drop}
-use Rattle.records.specs.Layout.{recordLength, Bytes}
+use Rattle.records.specs.Layout.{recordLength}
 use Rattle.records.specs.Notices.{decode, rows}
 use Rattle.tape_text.specs.Numbers.{Puts}
 use Rattle.tape_text.specs.Text.{noticeLine}
-use Rattle.tape_output.specs.Lengths.{noticeLineMost}
 use Rattle.tape_output.specs.Output.{rowLines}
-use Rattle.tape_output.proofs.Lines.{buffer-lines-most}
 use Rattle.tape_text.proofs.Putting.{Putting, putting-none, putting-length, putting-room, putting-more, putting-all}
 
 -- the lines that are left after the first i
@@ -38,13 +36,13 @@ pub record Listed (notices : List ℕ) (n start : ℕ) (before after : List ℕ)
   pub room : start + length (rowLines (rows n notices)) ≤ length before
   pub put : Putting (rowLines (rows n notices)) (linesFrom notices n i) start before after at
 
-pub listed-none : (notices : List ℕ) (n start : ℕ) (b : List ℕ) → Bytes notices → start + noticeLineMost * n ≤ length b
+pub listed-none : (notices : List ℕ) (n start : ℕ) (b : List ℕ) → start + length (rowLines (rows n notices)) ≤ length b
     → Listed notices n start b b start 0
-listed-none notices n start b bytes room =
+listed-none notices n start b room =
     let all : n - 0 ≡ n = omega arith in
     record {
       within = omega arith;
-      room = omega (arith, buffer-lines-most n notices bytes);
+      room = room;
       put = rw all (putting-none (rowLines (rows n notices)) start b);
     }
 

@@ -1,6 +1,7 @@
 pub mod Acts
 pub mod ByReading
 pub mod CallAnswer
+pub mod CallsInRow
 pub mod Emits
 pub mod Few
 pub mod Files

@@ -7,17 +7,19 @@ use native.Mathlib.Omega.{arith}
 use lib.Dec.{leb}
 use lib.ListN.{length, take, drop, length-append, length-take, length-drop, take-append-drop}
 use lib.Seq.{take-nil, drop-nil}
-use borrow.Author.Tests.{le-leb, leb-false}
+use borrow.Author.Tests.{leb-true, leb-false, le-leb}
 use Rattle.lists.proofs.TestLaws.{by-test}
 use Rattle.book.specs.CallsInRow.{recordsOf, Course, callsInRow}
+use Rattle.book.proofs.CallsInRow.{records-few, row-left, row-played}
 use Rattle.tape_reader.specs.Counts.{mostRecords}
 use Rattle.tape_output.specs.declared.Playing.{Playing}
 use Rattle.tape_output.specs.Output.{ending, printed, starting, calendarMost, tapeMost}
 use Rattle.tape_output.specs.Stretches.{recordTextMost, endingMost, stretchRecords, stretchNotices, stretchTextMost, atOnce}
 use Rattle.tape_output.specs.Stretches.{afterCalls, resultsText, Stretched, nothingMore, ended, behind, closing, textThen, stretch}
 use Rattle.tape_output.specs.Stretches.{left, Ready, pieces, joined, PiecesAreOutput, GoesOn, StretchGoesOn, StretchMoves}
-use Rattle.tape_output.proofs.Left.{records-few}
-use Rattle.tape_output.proofs.Courses.{course-parts, course-moves, counted-places, course-prints, course-goes-on}
+use Rattle.tape_output.proofs.Courses.{course-moves, course-prints}
+use Rattle.tape_output.proofs.Lines.{ending-most}
+use Rattle.tape_output.proofs.Ready.{calls-place, calls-left, calls-ready}
 
 -- ---- how a stretch closes
 -- What holds of the end where no record is left, and where nothing more is put, holds of both.
@@ -25,6 +27,12 @@ by-closing : (P : List (List ℕ) → Stretched → Type 0) (room : ℕ) (p : Pl
     → P [] (ended p) → P records (nothingMore p records) → P records (closing room p records)
 by-closing P room p [] put no-more = by-test (P []) (leb endingMost room) (ended p) (nothingMore p []) (λ e. put) (λ e. no-more)
 by-closing P room p (bytes ∷ rest) put no-more = no-more
+
+pub closing-fits : (room : ℕ) (p : Playing) (records : List (List ℕ)) → Ready p → length (closing room p records .text) ≤ room
+closing-fits room p [] ready =
+    by-test (λ s. length (s .text) ≤ room) (leb endingMost room) (ended p) (nothingMore p [])
+    (λ e. omega (arith, ending-most p ready, leb-true endingMost room e)) (λ e. omega arith)
+closing-fits room p (bytes ∷ rest) ready = omega arith
 
 -- what is printed behind a stretch
 abbrev after : List ℕ → Stretched → List ℕ
@@ -35,6 +43,10 @@ at-once-some : (room : ℕ) → recordTextMost ≤ room → 0 < atOnce room
 at-once-some room h =
     by-test (λ n. 0 < n) (leb stretchTextMost room) stretchRecords (cond (leb recordTextMost room) 1 0) (λ e. omega arith)
     (λ e. by-test (λ n. 0 < n) (leb recordTextMost room) 1 0 (λ t. omega arith) (λ t. absurd (omega (arith, leb-false recordTextMost room t))))
+
+pub at-once-many : (room : ℕ) → stretchTextMost ≤ room → atOnce room ≡ stretchRecords
+at-once-many room h =
+    ap (λ (t : Bool). cond t stretchRecords (cond (leb recordTextMost room) 1 0)) (le-leb stretchTextMost room h)
 
 module _ (calendar : List ℕ) (room : ℕ) (p : Playing) (records : List (List ℕ)) where
   abbrev course : Course
@@ -77,9 +89,10 @@ module _ (calendar : List ℕ) (room : ℕ) (p : Playing) (records : List (List 
 
   goes-on : (tape : List ℕ) → records ≡ left p tape → Ready p → GoesOn tape whole
   goes-on tape is ready =
-      let g = course-goes-on calendar tape stretchNotices (p .book) (take (atOnce room) records) (p .reader) others (parts ∙ is) ready in
+      let on-ready = calls-ready calendar stretchNotices p (take (atOnce room) records) tape others (parts ∙ is) ready in
       by-closing (λ ls s. ls ≡ left on tape → GoesOn tape (behind text s)) (room - length text) on (course .left ++ others)
-      (λ e. record { left = e; ready = g .1 }) (λ e. record { left = e; ready = g .1 }) (g .0)
+      (λ e. record { left = e; ready = on-ready }) (λ e. record { left = e; ready = on-ready })
+      (calls-left calendar stretchNotices p (take (atOnce room) records) tape others (parts ∙ is))
 
 -- ---- a stretch that is not the last plays a record
 no-record : (calendar : List ℕ) (room : ℕ) (p : Playing) → recordTextMost ≤ room → stretch calendar room p [] .done ≡ true
@@ -105,7 +118,9 @@ stretch-shortens calendar room p records h more =
       arith,
       plays-some calendar room p records h more,
       ap length (stretch-left calendar room p records more) ∙ length-append (c .left) rest,
-      course-parts calendar stretchNotices (p .book) (take (atOnce room) records),
+      ap length (row-left calendar stretchNotices (p .book) (take (atOnce room) records)),
+      length-drop (length (c .results)) (take (atOnce room) records),
+      row-played calendar stretchNotices (p .book) (take (atOnce room) records),
       length-take (atOnce room) records,
       length-drop (atOnce room) records,
     )
@@ -143,5 +158,5 @@ stretch-moves calendar tape room p h more =
       arith,
       plays-some calendar room p records h more,
       ap (λ (q : Playing). q .reader .place) (stretch-playing calendar room p records),
-      counted-places (p .reader) (course calendar room p records .results),
+      calls-place calendar stretchNotices p (take (atOnce room) records),
     )

@@ -106,10 +106,10 @@ pub record Roomy (answers₀ counts₀ notices₀ out : List ℕ) : Type 0 where
   pub notices : length notices₀ ≡ stretchNotices
   pub text : stretchTextMost ≤ length out
 
--- ---- what is promised after a stretch: the tape, its text in the buffer, and whether it is the last
-pub record Plays (s : Stretched) (r : Stretch) (before after : List ℕ) : Type 0 where
+-- ---- what is promised after a stretch, or of its close: the tape, its text in the buffer from a start on, and whether it is the last
+pub record Plays (start : ℕ) (s : Stretched) (r : Stretch) (before after : List ℕ) : Type 0 where
   pub playing : r .playing ≡ s .playing
-  pub text : Puts 0 before after (r .stop) (s .text)
+  pub text : Puts start before after (r .stop) (s .text)
   pub done : r .done ≡ s .done
 
 -- ---- the stretches of a tape, one after another, up to the one with the end; proofs/Stretches.antt proves what follows

@@ -15,7 +15,8 @@ use Rattle.tape_reader.proofs.Counts.{counted-place}
 use Rattle.tape_output.specs.Lengths.{recordLineMost, noticeLineMost}
 use Rattle.tape_output.specs.declared.Playing.{Playing}
 use Rattle.tape_output.specs.Output.{recordText, resultText, printed}
-use Rattle.tape_output.specs.Stretches.{endingMost, stretchRecords, stretchNotices, stretchTextMost, afterCalls, resultsText}
+use Rattle.tape_output.specs.Stretches.{recordTextMost, endingMost, stretchRecords, stretchNotices, stretchTextMost}
+use Rattle.tape_output.specs.Stretches.{afterCalls, resultsText}
 use Rattle.tape_output.proofs.Lines.{result-text-most}
 
 -- a tape that is being played, of its two parts
@@ -47,6 +48,24 @@ module _ (calendar : List ℕ) where
         result-text-most (place + 1) (called calendar b bytes) (omega arith) (omega (arith, called-few calendar b bytes)),
         length-append (resultText (place + 1) (called calendar b bytes)) (resultsText (place + 1) (course .results)),
         length-append (called calendar b bytes .notices) (noticesOf (course .results)),
+      ))
+
+  pub course-text-each : (free : ℕ) (b : Book) (records : List (List ℕ)) (place : ℕ) → place + length records ≤ mostRecords
+      → length (resultsText place (callsInRow calendar free b records .results))
+      ≤ recordTextMost * length (callsInRow calendar free b records .results)
+  course-text-each =
+      by-row
+      (λ free b records course. (place : ℕ) → place + length records ≤ mostRecords
+      → length (resultsText place (course .results)) ≤ recordTextMost * length (course .results))
+      calendar
+      (λ free b records place h. omega arith)
+      (λ free b bytes rest course room ih place h.
+      omega (
+        arith,
+        ih (place + 1) (omega arith),
+        result-text-most (place + 1) (called calendar b bytes) (omega arith) (omega (arith, called-few calendar b bytes)),
+        length-append (resultText (place + 1) (called calendar b bytes)) (resultsText (place + 1) (course .results)),
+        called-few calendar b bytes,
       ))
 
   -- that of a stretch finds room, with the end

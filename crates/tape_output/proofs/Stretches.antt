@@ -1,5 +1,5 @@
 -- The stretches of a tape, one after another, are the whole output, and each leaves a tape that is played on. Assumes nothing.
-use Prim.Native.Nat.{ℕ, zero, suc, _+_, _-_, _≤_, _<_}
+use Prim.Native.Nat.{ℕ, zero, suc, _+_, _*_, _-_, _≤_, _<_}
 use mathlib.Core.Path.{_≡_, refl, sym, ap, ap₂, _∙_}
 use mathlib.Core.List.{List, [], _∷_, _++_, append-nil}
 use mathlib.Core.Bool.{Bool, true, false, cond, false≢true}
@@ -16,8 +16,9 @@ use Rattle.tape_output.specs.declared.Playing.{Playing}
 use Rattle.tape_output.specs.Output.{ending, printed, starting, calendarMost, tapeMost}
 use Rattle.tape_output.specs.Stretches.{recordTextMost, endingMost, stretchRecords, stretchNotices, stretchTextMost, atOnce}
 use Rattle.tape_output.specs.Stretches.{afterCalls, resultsText, Stretched, nothingMore, ended, behind, closing, textThen, stretch}
-use Rattle.tape_output.specs.Stretches.{left, Ready, pieces, joined, PiecesAreOutput, GoesOn, StretchGoesOn, StretchMoves}
-use Rattle.tape_output.proofs.Courses.{course-moves, course-prints}
+use Rattle.tape_output.specs.Stretches.{left, Ready, pieces, joined, PiecesAreOutput, GoesOn, StretchGoesOn, StretchMoves, StretchFits}
+use Rattle.tape_output.proofs.Courses.{course-moves, course-text-each, course-text-fits, course-prints}
+use Rattle.tape_output.proofs.Left.{left-few}
 use Rattle.tape_output.proofs.Lines.{ending-most}
 use Rattle.tape_output.proofs.Ready.{calls-place, calls-left, calls-ready}
 
@@ -77,6 +78,29 @@ module _ (calendar : List ℕ) (room : ℕ) (p : Playing) (records : List (List 
       (room - length text) on (course .left ++ others)
       (λ h. append-nil (text ++ ending on) ∙ h)
       (λ h. ap (λ (l : List ℕ). l ++ printed calendar on (course .left ++ others)) (append-nil text) ∙ h) all
+
+  text-fits : p .reader .place + length records ≤ mostRecords → length text ≤ room
+  text-fits within =
+      by-test Fits (leb stretchTextMost room) stretchRecords (cond (leb recordTextMost room) 1 0)
+      (λ e. let w = within-part stretchRecords in
+      let few : length (take stretchRecords records) ≤ stretchRecords = omega (arith, length-take stretchRecords records) in
+      omega (arith, course-text-fits calendar (p .book) (take stretchRecords records) (p .reader .place) w few, leb-true stretchTextMost room e))
+      (λ e. by-test Fits (leb recordTextMost room) 1 0 (λ t. omega (arith, each 1, leb-true recordTextMost room t)) (λ t. omega (arith, each 0)))
+    where
+      Fits : ℕ → Type 0
+      Fits n = length (resultsText (p .reader .place) (callsInRow calendar stretchNotices (p .book) (take n records) .results)) ≤ room
+
+      within-part : (n : ℕ) → p .reader .place + length (take n records) ≤ mostRecords
+      within-part n = omega (arith, within, length-take n records)
+
+      each : (n : ℕ) → length (resultsText (p .reader .place) (callsInRow calendar stretchNotices (p .book) (take n records) .results)) ≤ recordTextMost * n
+      each n =
+          omega (
+            arith,
+            course-text-each calendar stretchNotices (p .book) (take n records) (p .reader .place) (within-part n),
+            row-played calendar stretchNotices (p .book) (take n records),
+            length-take n records,
+          )
 
   -- ---- what is left
   stretch-playing : whole .playing ≡ on
@@ -150,6 +174,21 @@ pieces-are-output calendar tape room h =
 -- ---- a tape that is played on
 pub stretch-goes-on : StretchGoesOn
 stretch-goes-on calendar tape room p short ready = goes-on calendar room p (left p tape) tape refl ready
+
+pub stretch-fits : StretchFits
+stretch-fits calendar tape room p ready =
+    let records = left p tape in
+    let c = course calendar room p records in
+    let written = text calendar room p records in
+    let on-ready = calls-ready calendar stretchNotices p (take (atOnce room) records) tape (others calendar room p records)
+    (parts calendar room p records) ready in
+    let rest = closing (room - length written) (on calendar room p records) (c .left ++ others calendar room p records) in
+    omega (
+      arith,
+      length-append written (rest .text),
+      text-fits calendar room p records (omega (arith, left-few p tape, ready .within)),
+      closing-fits (room - length written) (on calendar room p records) (c .left ++ others calendar room p records) on-ready,
+    )
 
 pub stretch-moves : StretchMoves
 stretch-moves calendar tape room p h more =

@@ -146,3 +146,8 @@ abbrev pub StretchMoves : Type 0
 StretchMoves =
     (calendar tape : List ℕ) (room : ℕ) (p : Playing) → recordTextMost ≤ room
     → stretch calendar room p (left p tape) .done ≡ false → p .reader .place < stretch calendar room p (left p tape) .playing .reader .place
+
+-- The text of every stretch finds room.
+abbrev pub StretchFits : Type 0
+StretchFits =
+    (calendar tape : List ℕ) (room : ℕ) (p : Playing) → Ready p → length (stretch calendar room p (left p tape) .text) ≤ room

@@ -1,12 +1,12 @@
--- `empty` meets its contract: 64 unused places are the places of a book with no file. Assumes nothing.
+-- `empty` meets its contract: 64 unused start are the start of a book with no file. Assumes nothing.
 use mathlib.Core.Path.{ap}
 use lib.ListN.{replicate}
 use borrow.Author.Needs.{needs}
 use Rattle.premise.specs.declared.File.{File}
 use Rattle.book.specs.declared.Book.{Book}
 use Rattle.book.specs.Book.{mostFiles, bookOf}
-use Rattle.book_files.proofs.places.empty.Statement.{statement}
-use Rattle.book_files.proofs.places.empty.Tie as tie
+use Rattle.book_files.proofs.start.empty.Statement.{statement}
+use Rattle.book_files.proofs.start.empty.Tie as tie
 
 blank-file-requires : tie.Need-blank-file-requires
 blank-file-requires c κs = search needs

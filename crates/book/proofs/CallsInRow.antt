@@ -73,12 +73,12 @@ unfolding call
 call-lent calendar b bytes lent other kept h k =
     rw (record-decides calendar b bytes lent h kept, record-decides calendar b bytes other k kept)
 
-long : noticeBytes ≤ length {A = ℕ} (replicate noticeBytes 0)
-long = omega (arith, length-replicate {A = ℕ} noticeBytes 0)
+pub called-room : noticeBytes ≤ length {A = ℕ} (replicate noticeBytes 0)
+called-room = omega (arith, length-replicate {A = ℕ} noticeBytes 0)
 
 pub called-lent : (calendar : List ℕ) (b : Book) (bytes lent : List ℕ) → bookKept b ≡ true → noticeBytes ≤ length lent
     → call calendar b bytes lent ≡ called calendar b bytes
-called-lent calendar b bytes lent kept room = call-lent calendar b bytes lent (replicate noticeBytes 0) kept room long
+called-lent calendar b bytes lent kept room = call-lent calendar b bytes lent (replicate noticeBytes 0) kept room called-room
 
 pub called-few : (calendar : List ℕ) (b : Book) (bytes : List ℕ) → recordLength * length (called calendar b bytes .notices) ≤ noticeBytes
 called-few calendar b bytes =

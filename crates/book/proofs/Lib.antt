@@ -1,4 +1,5 @@
 pub mod Acts
+pub mod ByPremise
 pub mod ByReading
 pub mod CallAnswer
 pub mod CallsInRow

@@ -70,7 +70,7 @@ module _ (calendar : List ℕ) (b : Book) where
         go false = refuses NotNextDay (Says r) (refusing NotNextDay refl)
 
     -- a refusal leaves the file where it is
-    put-back : is kindDayMark r ≡ false → bookOf (b .today) (withFile (r .premise) (fileFor (r .premise) (filesOf b)) (filesOf b)) ≡ b
+    pub put-back : is kindDayMark r ≡ false → bookOf (b .today) (withFile (r .premise) (fileFor (r .premise) (filesOf b)) (filesOf b)) ≡ b
     put-back t = ap (bookOf (b .today)) (with-same (r .premise) (filesOf b) (has-premise r w t) (rises-rising 0 (filesOf b) (k .rising)))
         ∙ sym (k .tidy .whole)
 

@@ -1,6 +1,8 @@
 pub mod Acts
+pub mod ByPremise
 pub mod ByReading
 pub mod CallAnswer
+pub mod CallsInRow
 pub mod Emits
 pub mod Few
 pub mod Files

@@ -2,3 +2,4 @@ pub mod Book
 pub mod Calls
 pub mod Laws
 pub mod Promise
+pub mod CallsInRow

@@ -21,3 +21,12 @@ pub struct Reply {
     pub sent: usize,
     pub book: Book,
 }
+
+// What record calls in a row return: how many records were played, how many notices stand in the buffer, the answer of the last record, and
+// the book afterwards.
+pub struct Playback {
+    pub played: usize,
+    pub sent: usize,
+    pub last: Answer,
+    pub book: Book,
+}

@@ -1,5 +1,5 @@
-pub mod Given
 pub mod MarkTurns
 pub mod Marking
-pub mod OnMark
-pub mod Refusals
+pub mod Playing
+pub mod Tasks
+pub mod Ways

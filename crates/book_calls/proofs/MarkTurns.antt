@@ -31,8 +31,8 @@ use Rattle.book.proofs.Marks.{mark-tells-in-order}
 use Rattle.book_files.proofs.Tidy.{past, withPlaces, at-file, length-files}
 use Rattle.book_calls.proofs.Marking.{Marking, room-for, length-marked}
 
-module _ {calendar : List ℕ} {day : ℕ} {b : Book} {buffer : List ℕ} {i sent : ℕ} {c : Book} {after : List ℕ}
-    (m : Marking calendar day b buffer i sent c after) (h : i < b .count) where
+module _ {calendar : List ℕ} {day : ℕ} {b : Book} {standing : ℕ} {buffer : List ℕ} {i sent : ℕ} {c : Book}
+    {after : List ℕ} (m : Marking calendar day b standing buffer i sent c after) (h : i < b .count) where
   tidy : TidyBook b
   tidy = m .asked .0
 
@@ -73,8 +73,8 @@ module _ {calendar : List ℕ} {day : ℕ} {b : Book} {buffer : List ℕ} {i sen
       ∙ mark-tells-in-order calendar day (take i (filesOf b)) (file ∷ [])
       ∙ ap (λ (l : List Notice). told ++ l) (append-nil (marked calendar day file .notices))
 
-  room-more : Room 0 (told ++ marked calendar day file .notices) buffer
-  room-more = subst (λ (l : List Notice). Room 0 l buffer) told-more (room-for m (i + 1))
+  room-more : Room standing (told ++ marked calendar day file .notices) buffer
+  room-more = subst (λ (l : List Notice). Room standing l buffer) told-more (room-for m (i + 1))
 
   -- it is as it was
   same-file : getD (c .files) i past ≡ file
@@ -90,11 +90,11 @@ module _ {calendar : List ℕ} {day : ℕ} {b : Book} {buffer : List ℕ} {i sen
   pub mark-room : Room sent (marked calendar day (getD (c .files) i past) .notices) after
   mark-room =
       subst⁻¹ (λ (f : File). Room sent (marked calendar day f .notices) after) same-file
-      (room-then 0 buffer told (marked calendar day file .notices) room-more after sent (m .wrote))
+      (room-then standing buffer told (marked calendar day file .notices) room-more after sent (m .wrote))
 
   -- one turn
   pub mark-more : (r : FileAfter) {last : List ℕ} → DoneToFile (marked calendar day (getD (c .files) i past)) sent r after last
-      → Marking calendar day b buffer (i + 1) (r .sent) (withPlaces c (c .count) (set (c .files) i (r .file))) last
+      → Marking calendar day b standing buffer (i + 1) (r .sent) (withPlaces c (c .count) (set (c .files) i (r .file))) last
   mark-more r {last} raw =
       let did : DoneToFile (marked calendar day file) sent r after last =
       subst (λ (f : File). DoneToFile (marked calendar day f) sent r after last) same-file raw in
@@ -108,18 +108,18 @@ module _ {calendar : List ℕ} {day : ℕ} {b : Book} {buffer : List ℕ} {i sen
             ∙ ap (λ (f : File). (done ++ (f ∷ [])) ++ drop (i + 1) (b .files)) (did .file)
             ∙ ap (λ (l : List File). l ++ drop (i + 1) (b .files)) (sym done-more));
         wrote =
-            subst⁻¹ (λ (l : List Notice). Writes 0 buffer last (r .sent) l) told-more
-            (writes-then 0 buffer told (marked calendar day file .notices) room-more after sent (m .wrote) last (r .sent) (did .wrote));
+            subst⁻¹ (λ (l : List Notice). Writes standing buffer last (r .sent) l) told-more
+            (writes-then standing buffer told (marked calendar day file .notices) room-more after sent (m .wrote) last (r .sent) (did .wrote));
       }
 
   -- a turn on a file that the mark does not touch
   pub mark-still : {business touches : Bool} (last : ℕ) → business ≡ isBusinessDay calendar day → LastInWindow calendar windowWidth day last
       → touches ≡ markChangesFile business day last (held (getD (c .files) i past)) → touches ≡ false
-      → Marking calendar day b buffer (i + 1) sent c after
+      → Marking calendar day b standing buffer (i + 1) sent c after
   mark-still last day-kind window tested stays =
       let f : File = getD (c .files) i past in
       let e : marked calendar day f ≡ record { file = f; notices = [] } =
       unchanged-stays calendar day last f mark-tidy window
       (ap (λ (x : Bool). markChangesFile x day last (held f)) (sym day-kind) ∙ sym tested ∙ stays) in
-      subst (λ (fs : List File). Marking calendar day b buffer (i + 1) sent (withPlaces c (c .count) fs) after) (set-getD (c .files) i past)
+      subst (λ (fs : List File). Marking calendar day b standing buffer (i + 1) sent (withPlaces c (c .count) fs) after) (set-getD (c .files) i past)
       (mark-more (record { file = f; sent = sent }) (done-nothing (marked calendar day f) f sent after e))

@@ -16,15 +16,39 @@ pub fn fresh(start: u16) -> Book
     book_files::empty(start)
 }
 
-// A record on a book: the number of the first row of document 01's table that it meets, or acceptance.
+// A refusal: the book as it was, and no notice.
+fn refuse(answer: Answer, b: Book) -> Reply
+    ensures { λ p. ⌜ p ≡ record { answer = answer; sent = 0; book = b } ⌝ }
+{
+    Reply {
+        answer: answer,
+        sent: 0,
+        book: b,
+    }
+}
+
+// A record on a book: the number of the first row of document 01's table that it meets, or acceptance. A record of another length than 24
+// is malformed, and none of its bytes is played.
 pub fn record_call(calendar: &[u8], b: Book, bytes: &[u8], buffer: &mut [u8]) -> Reply
     ensures { λ r. ⌜ Promised (now (calendar .entry)) b (now (bytes .entry)) (now (buffer .entry)) r (now (buffer .exit)) ⌝ }
 {
     if buffer.len() < book::NOTICE_BYTES {
-        return crate::replies::refuse(Answer::ShortBuffer, b);
+        return refuse(Answer::ShortBuffer, b);
     }
     if !book_files::book_kept(b) {
-        return crate::replies::refuse(Answer::NotWellKept, b);
+        return refuse(Answer::NotWellKept, b);
     }
-    crate::by_kind::on_bytes(calendar, b, bytes, buffer)
+    if bytes.len() != records::RECORD_LENGTH {
+        return refuse(Answer::MalformedRecord, b);
+    }
+    let mut answers = [0u8; 1];
+    let mut counts = [0u16; 1];
+    let p = crate::player::play(calendar, b, bytes, &mut answers, &mut counts, buffer);
+    let last = p.last;
+    let c = p.book;
+    Reply {
+        answer: last,
+        sent: p.sent,
+        book: c,
+    }
 }

@@ -1,5 +1,6 @@
 pub mod Before
 pub mod Numbers
+pub mod Places
 pub mod PutIn
 pub mod TakenOut
 pub mod Tidy

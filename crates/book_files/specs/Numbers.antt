@@ -1,10 +1,15 @@
--- Where a premise's number stands among some.
-use Prim.Native.Nat.{ℕ}
-use mathlib.Core.List.{List}
-use lib.Dec.{eqb}
-use Rattle.lists.specs.declared.Found.{Found}
-use Rattle.lists.specs.Search.{placeOf}
+-- Where a premise's number stands among rising ones, or where it would stand.
+use Prim.Native.Nat.{ℕ, suc}
+use mathlib.Core.List.{List, [], _∷_}
+use mathlib.Core.Bool.{cond}
+use lib.Dec.{eqb, ltb}
+use Rattle.book_files.specs.declared.premise_numbers.Place.{Place}
+use Rattle.book_files.specs.declared.premise_numbers.Place.the-variants.{Held, Free}
 
--- the place of the first of some numbers that is a premise's
-abbrev pub placeOfPremise : ℕ → List ℕ → Found
-placeOfPremise premise numbers = placeOf (λ (n : ℕ). eqb n premise) numbers
+-- counted from a place on
+abbrev pub placeFrom : ℕ → ℕ → List ℕ → Place
+placeFrom premise at [] = Free at
+placeFrom premise at (n ∷ ns) = cond (eqb n premise) (Held at) (cond (ltb premise n) (Free at) (placeFrom premise (suc at) ns))
+
+abbrev pub placeOfPremise : ℕ → List ℕ → Place
+placeOfPremise premise numbers = placeFrom premise 0 numbers

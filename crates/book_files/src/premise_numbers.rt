@@ -6,7 +6,12 @@ ghost use lib.ListN.{length, take};
 ghost use Rattle.book.specs.Laws.{numbersOf};
 ghost use Rattle.book_files.specs.Numbers.{placeOfPremise};
 use book::Book;
-use lists::Found;
+
+// Where a premise stands among rising premise numbers: at a place, or at none, and then the place where it would stand.
+pub enum Place {
+    Held(usize),
+    Free(usize),
+}
 
 // The premise numbers of all places of a book, 0 where a place is unused.
 pub fn premises(b: Book) -> [u64; 64]
@@ -23,16 +28,20 @@ pub fn premises(b: Book) -> [u64; 64]
 }
 
 // The place of a premise among the first `count` numbers.
-pub fn place_of(premises: &[u64], count: usize, premise: u64) -> Found
+pub fn place_of(premises: &[u64], count: usize, premise: u64) -> Place
     requires { ⌜ count ≤ length (now premises) ⌝ }
     ensures { λ r. ⌜ r ≡ placeOfPremise premise (take count (now (premises .entry))) ⌝ }
 {
-    let mut i: usize = 0;
-    while i < count {
-        if premises[i] == premise {
-            return Found::At(i);
+    let mut at: usize = 0;
+    while at < count {
+        let number = premises[at];
+        if number == premise {
+            return Place::Held(at);
         }
-        i += 1;
+        if premise < number {
+            return Place::Free(at);
+        }
+        at += 1;
     }
-    Found::Nothing
+    Place::Free(at)
 }

@@ -1,2 +1,1 @@
-pub mod ByAnswer
 pub mod Slots

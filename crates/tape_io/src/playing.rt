@@ -2,7 +2,7 @@
 ghost use mathlib.Core.Path.{_≡_};
 ghost use Prim.Native.Nat.{_≤_, min};
 ghost use lib.ListN.{length};
-ghost use Rattle.tape_output.specs.Output.{tapeMost};
+ghost use Rattle.tape_output.specs.Output.{calendarMost, tapeMost};
 ghost use Rattle.tape_output.specs.Stretches.{Roomy};
 
 // How many bytes of a calendar and of a tape are read.
@@ -10,17 +10,30 @@ pub const CALENDAR_BYTES: usize = 4_096;
 
 pub const TAPE_BYTES: usize = 65_520;
 
-// Room for the text of at least two records that give as many notices as a call can.
-pub const TEXT_BYTES: usize = 131_072;
+// A stretch: at most so many records, the notice bytes of two calls, and room for the text of both with the end.
+const STRETCH_RECORDS: usize = 64;
+
+const STRETCH_NOTICES: usize = 49_152;
+
+const STRETCH_TEXT: usize = 131_072;
 
 // Plays a tape in the buffers that it is lent, and writes its text to standard output, stretch by stretch; whether every write was
 // taken.
-fn play_in(calendar: &[u8], tape: &[u8], notices: &mut [u8], out: &mut [u8]) -> bool
-    requires { ⌜ (length (now tape) ≤ tapeMost) × Roomy (now notices) (now out) ⌝ }
+fn play_in(
+    calendar: &[u8],
+    tape: &[u8],
+    answers: &mut [u8],
+    counts: &mut [u16],
+    notices: &mut [u8],
+    out: &mut [u8],
+) -> bool
+    requires { ⌜ length (now calendar) ≤ calendarMost ⌝ }
+    requires { ⌜ length (now tape) ≤ tapeMost ⌝ }
+    requires { ⌜ Roomy (now answers) (now counts) (now notices) (now out) ⌝ }
 {
     let mut p = tape_output::start();
     loop {
-        let s = tape_player::play_on(calendar, p, tape, notices, out);
+        let s = tape_player::play_on(calendar, p, tape, answers, counts, notices, out);
         let stop = s.stop;
         if !io::write_all(libc::STDOUT_FILENO, &out[0..stop]) {
             return false;
@@ -32,8 +45,19 @@ fn play_in(calendar: &[u8], tape: &[u8], notices: &mut [u8], out: &mut [u8]) -> 
     }
 }
 
+// How many days of a calendar count.
+fn days_read(given: usize) -> usize
+    ensures { λ r. ⌜ r ≡ min given calendarMost ⌝ }
+{
+    if given < CALENDAR_BYTES {
+        given
+    } else {
+        CALENDAR_BYTES
+    }
+}
+
 // How many bytes of a tape are played.
-fn played_bytes(given: usize) -> usize
+fn bytes_played(given: usize) -> usize
     ensures { λ r. ⌜ r ≡ min given tapeMost ⌝ }
 {
     if given < TAPE_BYTES {
@@ -43,11 +67,21 @@ fn played_bytes(given: usize) -> usize
     }
 }
 
-// Plays the first bytes of a tape and writes its text to standard output; whether every write was taken. It asks nothing: the buffers are
-// its own, and a longer tape is cut here and not by who calls it.
+// Plays the first bytes of a tape by the first of a calendar and writes its text to standard output; whether every write was taken. It
+// asks nothing: the buffers are its own, and a longer calendar or tape is cut here and not by who calls it.
 pub fn play(calendar: &[u8], tape: &[u8]) -> bool {
-    let mut notices = [0u8; book::NOTICE_BYTES];
-    let mut out = [0u8; TEXT_BYTES];
-    let played = played_bytes(tape.len());
-    play_in(calendar, &tape[0..played], &mut notices, &mut out)
+    let mut answers = [0u8; STRETCH_RECORDS];
+    let mut counts = [0u16; STRETCH_RECORDS];
+    let mut notices = [0u8; STRETCH_NOTICES];
+    let mut out = [0u8; STRETCH_TEXT];
+    let days = days_read(calendar.len());
+    let played = bytes_played(tape.len());
+    play_in(
+        &calendar[0..days],
+        &tape[0..played],
+        &mut answers,
+        &mut counts,
+        &mut notices,
+        &mut out,
+    )
 }

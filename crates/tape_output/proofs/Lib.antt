@@ -1,5 +1,6 @@
-pub mod Calls
+pub mod Courses
 pub mod Left
 pub mod LineLengths
 pub mod Lines
+pub mod Ready
 pub mod Stretches

@@ -1,17 +1,15 @@
--- How long a record's text can be, and the end's. Assumes nothing.
-use Prim.Native.Nat.{ℕ, zero, suc, _+_, _*_, _≤_, _<_}
-use mathlib.Core.Path.{_≡_, refl, ap}
+-- How long the text of a call can be, and the end's. Assumes nothing.
+use Prim.Native.Nat.{ℕ, _+_, _*_, _≤_}
 use mathlib.Core.List.{List, [], _∷_, map}
 use native.Mathlib.Omega.{arith}
-use lib.ListN.{length, take, drop, length-append, length-map}
+use lib.ListN.{length, length-append, length-map}
 use borrow.Author.Tests.{leb-true}
 use Rattle.lists.specs.Search.{Each}
 use Rattle.days.specs.Days.{lastDay}
 use Rattle.records.specs.declared.Notice.{Notice}
-use Rattle.records.specs.Layout.{recordLength, Bytes}
+use Rattle.records.specs.Layout.{Bytes}
 use Rattle.records.specs.Records.{lastRetailer}
-use Rattle.records.specs.Notices.{decode, rows, encode}
-use Rattle.records.proofs.Fields.{bytes-drop}
+use Rattle.records.specs.Notices.{decode, encode}
 use Rattle.records.proofs.Notices.{encode-bytes}
 use Rattle.premise.specs.declared.File.{File}
 use Rattle.premise.specs.declared.Answer.{Answer}
@@ -21,15 +19,15 @@ use Rattle.premise.specs.declared.Answer.the-variants.{StackFull, NoSuchOrder, 
 use Rattle.premise.specs.Refusals.{number}
 use Rattle.premise.specs.WellKept.{FileKept}
 use Rattle.book.specs.Book.{filesOf}
+use Rattle.book.specs.Calls.{Result}
 use Rattle.book.proofs.Kept.{count-is, book-kept-means}
 use Rattle.tape_text.specs.Text.{recordLine, noticeLine, fileLine, totalLine}
-use Rattle.tape_output.specs.Lengths.{lastAnswer, noticeLineMost, fileLineMost}
+use Rattle.tape_output.specs.Lengths.{lastAnswer, mostNotices, recordLineMost, noticeLineMost, fileLineMost}
 use Rattle.tape_output.proofs.LineLengths.{record-line, notice-line-of, file-line, total-line}
 use Rattle.tape_reader.specs.Counts.{mostRecords}
 use Rattle.tape_output.specs.declared.Playing.{Playing}
-use Rattle.tape_output.specs.Output.{called, rowLines, recordText, fileLines, ending}
-use Rattle.tape_output.specs.Stretches.{recordTextMost, endingMost, Ready}
-use Rattle.tape_output.proofs.Calls.{called-few}
+use Rattle.tape_output.specs.Output.{rowLines, resultText, fileLines, ending}
+use Rattle.tape_output.specs.Stretches.{endingMost, Ready}
 
 -- ---- a record's line
 pub number-most : (answer : Answer) → number answer ≤ lastAnswer
@@ -52,19 +50,6 @@ number-most StatusNotTaken = omega arith
 number-most NotNextDay = omega arith
 
 -- ---- the lines of notices: rows of bytes
-bytes-take : (n : ℕ) (xs : List ℕ) → Bytes xs → Bytes (take n xs)
-bytes-take zero xs b = tt
-bytes-take (suc n) [] b = tt
-bytes-take (suc n) (x ∷ xs) b = (b .0, bytes-take n xs (b .1))
-
-rows-length : (n : ℕ) (buffer : List ℕ) → length (rows n buffer) ≡ n
-rows-length zero buffer = refl
-rows-length (suc n) buffer = ap suc (rows-length n (drop recordLength buffer))
-
-rows-bytes : (n : ℕ) (buffer : List ℕ) → Bytes buffer → Each Bytes (rows n buffer)
-rows-bytes zero buffer b = tt
-rows-bytes (suc n) buffer b = (bytes-take recordLength buffer b, rows-bytes n (drop recordLength buffer) (bytes-drop recordLength buffer b))
-
 encoded-bytes : (xs : List Notice) → Each Bytes (map encode xs)
 encoded-bytes [] = tt
 encoded-bytes (x ∷ xs) = (encode-bytes x, encoded-bytes xs)
@@ -74,23 +59,16 @@ row-lines-most [] b = omega arith
 row-lines-most (r ∷ rs) b =
     omega (arith, length-append (noticeLine (decode r)) (rowLines rs), notice-line-of r (b .0), row-lines-most rs (b .1))
 
--- the first n notices of a buffer
-pub buffer-lines-most : (n : ℕ) (buffer : List ℕ) → Bytes buffer → length (rowLines (rows n buffer)) ≤ noticeLineMost * n
-buffer-lines-most n buffer b = omega (arith, row-lines-most (rows n buffer) (rows-bytes n buffer b), rows-length n buffer)
-
--- ---- a record's text
-pub record-text-most : (calendar : List ℕ) (p : Playing) (bytes : List ℕ) → p .reader .place < mostRecords
-    → length (recordText calendar p bytes) ≤ recordTextMost
-unfolding recordText
-record-text-most calendar p bytes left =
-    let place = p .reader .place + 1 in
-    let answer = number (called calendar p bytes .answer) in
-    let notices = called calendar p bytes .notices in
-    let few = called-few calendar p bytes in
+-- ---- the text of a call
+pub result-text-most : (place : ℕ) (x : Result) → place ≤ mostRecords → length (x .notices) ≤ mostNotices
+    → length (resultText place x) ≤ recordLineMost + noticeLineMost * length (x .notices)
+result-text-most place x left few =
+    let answer = number (x .answer) in
+    let notices = x .notices in
     omega (
       arith,
       length-append (recordLine place answer (length notices)) (rowLines (map encode notices)),
-      record-line place answer (length notices) (omega arith) (number-most (called calendar p bytes .answer)) few,
+      record-line place answer (length notices) left (number-most (x .answer)) few,
       row-lines-most (map encode notices) (encoded-bytes notices),
       length-map notices encode,
     )

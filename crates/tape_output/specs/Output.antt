@@ -1,45 +1,36 @@
 -- Document 01, "The tape program": what it prints, from the calendar and the tape. The answers, the notices and the book are those of
 -- the single calls, in order; the lines are those of `tape_text`.
-use Prim.Native.Nat.{ℕ, zero, suc, _+_, _*_}
+use Prim.Native.Nat.{ℕ, _+_, _*_}
 use mathlib.Core.List.{List, [], _∷_, _++_, map}
-use lib.ListN.{length, take, drop, replicate}
+use lib.ListN.{length, take}
 use Rattle.records.specs.Layout.{recordLength}
 use Rattle.records.specs.Notices.{encode, decode}
 use Rattle.premise.specs.declared.File.{File}
 use Rattle.premise.specs.Refusals.{number}
 use Rattle.book.specs.Book.{filesOf, freshBook}
-use Rattle.book.specs.Calls.{Result, noticeBytes, call}
+use Rattle.book.specs.Calls.{Result}
+use Rattle.book.specs.CallsInRow.{recordsOf, called}
 use Rattle.tape_text.specs.Text.{recordLine, noticeLine, fileLine, totalLine}
 use Rattle.tape_reader.specs.Counts.{mostRecords, counted}
 use Rattle.tape_output.specs.declared.Playing.{Playing}
 
--- It reads the first 4,096 bytes of calendar.bin, and plays the first 65,520 bytes of standard input ..
+-- It reads the first 4,096 bytes of calendar.bin, and plays the first 65,520 bytes of standard input, record by record (`recordsOf`).
 abbrev pub calendarMost : ℕ
 calendarMost = 4096
 
 abbrev pub tapeMost : ℕ
 tapeMost = recordLength * mostRecords
 
--- .. record by record; the last may be short.
-abbrev pub recordsOf : ℕ → List ℕ → List (List ℕ)
-recordsOf zero tape = []
-recordsOf (suc most) [] = []
-recordsOf (suc most) (byte ∷ tape) = take recordLength (byte ∷ tape) ∷ recordsOf most (drop recordLength (byte ∷ tape))
-
 -- It starts a fresh book at 0.
 abbrev pub starting : Playing
 starting = record { reader = record { place = 0; accepted = 0; refused = 0 }; book = freshBook 0 }
 
--- the single call of a record: its buffer is long enough
-abbrev pub called : List ℕ → Playing → List ℕ → Result
-called calendar p bytes = call calendar (p .book) bytes (replicate noticeBytes 0)
-
--- the tape after it: the reader is one record on, and the book is the one that the call returned
+-- the tape after a record's call: the reader is one record on, and the book is the one that the call returned
 abbrev pub playedOn : List ℕ → Playing → List ℕ → Playing
 playedOn calendar p bytes =
     record {
-      reader = counted (p .reader) (number (called calendar p bytes .answer));
-      book = called calendar p bytes .book;
+      reader = counted (p .reader) (number (called calendar (p .book) bytes .answer));
+      book = called calendar (p .book) bytes .book;
     }
 
 -- Lines: place from 1, answer, n; per notice a line, as its 24 bytes say it.
@@ -51,7 +42,7 @@ abbrev pub resultText : ℕ → Result → List ℕ
 resultText place r = recordLine place (number (r .answer)) (length (r .notices)) ++ rowLines (map encode (r .notices))
 
 unfoldable pub recordText : List ℕ → Playing → List ℕ → List ℕ
-recordText calendar p bytes = resultText (p .reader .place + 1) (called calendar p bytes)
+recordText calendar p bytes = resultText (p .reader .place + 1) (called calendar (p .book) bytes)
 
 -- At the end per file a line, then the last line.
 abbrev pub fileLines : List File → List ℕ

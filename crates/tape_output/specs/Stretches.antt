@@ -1,5 +1,5 @@
--- The output in stretches. A stretch goes into a buffer of a fixed length: as many records as surely find room for their text, and after
--- the last record the end, if it finds room.
+-- The output in stretches. A stretch plays records in a row, as many as surely find room for their text, and then puts that text into a
+-- buffer of a fixed length; behind the last record's text comes the end, if it finds room.
 use Prim.Native.Nat.{ℕ, zero, suc, _+_, _*_, _-_, _≤_, _<_}
 use mathlib.Core.Path.{_≡_}
 use mathlib.Core.List.{List, [], _∷_, _++_}
@@ -8,14 +8,17 @@ use lib.Dec.{leb}
 use lib.ListN.{length, take, drop}
 use Rattle.records.specs.Layout.{recordLength}
 use Rattle.book.specs.Book.{mostFiles, bookKept}
-use Rattle.book.specs.Calls.{noticeBytes}
+use Rattle.book.specs.Calls.{Result, noticeBytes}
+use Rattle.book.specs.CallsInRow.{recordsOf, Course, callsInRow, answersOf}
 use Rattle.tape_text.specs.Numbers.{Puts}
+use Rattle.tape_reader.specs.declared.Reader.{Reader}
+use Rattle.tape_reader.specs.Counts.{mostRecords, counted, Sound}
 use Rattle.tape_output.specs.Lengths.{mostNotices, recordLineMost, noticeLineMost, fileLineMost, totalLineMost}
-use Rattle.tape_reader.specs.Counts.{mostRecords, Sound}
 use Rattle.tape_output.specs.declared.Playing.{Playing}
 use Rattle.tape_output.specs.declared.Stretch.{Stretch}
-use Rattle.tape_output.specs.Output.{recordsOf, playedOn, recordText, ending, starting, output, calendarMost, tapeMost}
+use Rattle.tape_output.specs.Output.{resultText, ending, starting, output, calendarMost, tapeMost}
 
+-- ---- room
 -- the most that a record's text takes, and the end's
 abbrev pub recordTextMost : ℕ
 recordTextMost = recordLineMost + noticeLineMost * mostNotices
@@ -23,6 +26,36 @@ recordTextMost = recordLineMost + noticeLineMost * mostNotices
 abbrev pub endingMost : ℕ
 endingMost = fileLineMost * mostFiles + totalLineMost
 
+-- a stretch plays at most so many records, with notice bytes for two calls; the most that their text takes, with the end
+abbrev pub stretchRecords : ℕ
+stretchRecords = 64
+
+abbrev pub stretchNotices : ℕ
+stretchNotices = 2 * noticeBytes
+
+abbrev pub stretchTextMost : ℕ
+stretchTextMost = recordLineMost * stretchRecords + noticeLineMost * (2 * mostNotices) + endingMost
+
+-- how many records are played at once, by the room for text: so many where there is room for their text and the end, else one where
+-- there is room for its text
+abbrev pub atOnce : ℕ → ℕ
+atOnce room = cond (leb stretchTextMost room) stretchRecords (cond (leb recordTextMost room) 1 0)
+
+-- ---- calls in a row, and their text
+-- a reader after records with these answers
+abbrev pub countedAll : Reader → List ℕ → Reader
+countedAll reader [] = reader
+countedAll reader (answer ∷ answers) = countedAll (counted reader answer) answers
+
+abbrev pub afterCalls : Reader → Course → Playing
+afterCalls reader course = record { reader = countedAll reader (answersOf (course .results)); book = course .book }
+
+-- their text, behind a place of the tape
+abbrev pub resultsText : ℕ → List Result → List ℕ
+resultsText place [] = []
+resultsText place (x ∷ xs) = resultText (place + 1) x ++ resultsText (place + 1) xs
+
+-- ---- a stretch
 -- what a stretch gives: its text, the tape after it, the records that are left, and whether the end is among its text
 pub record Stretched : Type 0 where
   pub text : List ℕ
@@ -39,13 +72,20 @@ ended p = record { text = ending p; playing = p; left = []; done = true }
 abbrev pub behind : List ℕ → Stretched → Stretched
 behind text s = record { text = text ++ s .text; playing = s .playing; left = s .left; done = s .done }
 
--- as many records as surely find room, then the end
+-- the end where no record is left and it finds room
+abbrev pub closing : ℕ → Playing → List (List ℕ) → Stretched
+closing room p [] = cond (leb endingMost room) (ended p) (nothingMore p [])
+closing room p (bytes ∷ rest) = nothingMore p (bytes ∷ rest)
+
+-- the text of some calls in a row, then what closes, by the records that are left with those behind them
+abbrev pub textThen : ℕ → Reader → Course → List (List ℕ) → Stretched
+textThen room reader course others =
+    behind (resultsText (reader .place) (course .results))
+    (closing (room - length (resultsText (reader .place) (course .results))) (afterCalls reader course) (course .left ++ others))
+
 abbrev pub stretch : List ℕ → ℕ → Playing → List (List ℕ) → Stretched
-stretch calendar room p [] = cond (leb endingMost room) (ended p) (nothingMore p [])
-stretch calendar room p (bytes ∷ rest) =
-    cond (leb recordTextMost room)
-    (behind (recordText calendar p bytes) (stretch calendar (room - length (recordText calendar p bytes)) (playedOn calendar p bytes) rest))
-    (nothingMore p (bytes ∷ rest))
+stretch calendar room p records =
+    textThen room (p .reader) (callsInRow calendar stretchNotices (p .book) (take (atOnce room) records)) (drop (atOnce room) records)
 
 -- the records of a tape that the reader has not played
 abbrev pub left : Playing → List ℕ → List (List ℕ)
@@ -58,15 +98,18 @@ pub record Ready (p : Playing) : Type 0 where
   pub sound : Sound (p .reader)
   pub within : p .reader .place ≤ mostRecords
 
--- .. and of the buffers: room for the notices of any call, and for the text of any record
-pub record Roomy (buffer out : List ℕ) : Type 0 where
-  pub notices : noticeBytes ≤ length buffer
-  pub text : recordTextMost ≤ length out
+-- .. and of the buffers: places for the answers and counts of a stretch and bytes for its notices, no more, so that its records are
+-- those of the definition; and room for its text
+pub record Roomy (answers₀ counts₀ notices₀ out : List ℕ) : Type 0 where
+  pub answers : length answers₀ ≡ stretchRecords
+  pub counts : stretchRecords ≤ length counts₀
+  pub notices : length notices₀ ≡ stretchNotices
+  pub text : stretchTextMost ≤ length out
 
--- ---- what is promised after a stretch: the tape, its text in the buffer, and whether it is the last
-pub record Plays (s : Stretched) (r : Stretch) (before after : List ℕ) : Type 0 where
+-- ---- what is promised after a stretch, or of its close: the tape, its text in the buffer from a start on, and whether it is the last
+pub record Plays (start : ℕ) (s : Stretched) (r : Stretch) (before after : List ℕ) : Type 0 where
   pub playing : r .playing ≡ s .playing
-  pub text : Puts 0 before after (r .stop) (s .text)
+  pub text : Puts start before after (r .stop) (s .text)
   pub done : r .done ≡ s .done
 
 -- ---- the stretches of a tape, one after another, up to the one with the end; proofs/Stretches.antt proves what follows
@@ -103,3 +146,8 @@ abbrev pub StretchMoves : Type 0
 StretchMoves =
     (calendar tape : List ℕ) (room : ℕ) (p : Playing) → recordTextMost ≤ room
     → stretch calendar room p (left p tape) .done ≡ false → p .reader .place < stretch calendar room p (left p tape) .playing .reader .place
+
+-- The text of every stretch finds room.
+abbrev pub StretchFits : Type 0
+StretchFits =
+    (calendar tape : List ℕ) (room : ℕ) (p : Playing) → Ready p → length (stretch calendar room p (left p tape) .text) ≤ room

@@ -1,11 +1,9 @@
 // How a stretch of a tape closes, with the text of the end.
-ghost use Prim.Native.Nat.{_+_, _≤_};
-ghost use lib.Dec.{leb};
+ghost use Prim.Native.Nat.{_+_, _-_, _≤_};
 ghost use lib.ListN.{length};
 ghost use Rattle.tape_text.specs.Numbers.{Puts};
-ghost use Rattle.tape_output.specs.Output.{ending};
-ghost use Rattle.tape_output.specs.Stretches.{endingMost, Ready};
-ghost use Rattle.tape_player.specs.Closing.{Closes};
+ghost use Rattle.tape_output.specs.Output.{tapeMost, ending};
+ghost use Rattle.tape_output.specs.Stretches.{endingMost, closing, left, Ready, Plays};
 use tape_output::Playing;
 use tape_output::Stretch;
 
@@ -30,13 +28,14 @@ fn put_ending(p: Playing, start: usize, out: &mut [u8]) -> usize
     tape_text::put_total(reader.accepted, reader.refused, at, out)
 }
 
-// How a stretch closes, by the place that it has reached of the whole tape: where every record is played and the end finds room, the end is
-// put.
-pub fn close(p: Playing, reached: usize, whole: usize, stop: usize, out: &mut [u8]) -> Stretch
-    requires { ⌜ Ready p × (stop ≤ length (now out)) ⌝ }
-    ensures { λ r. ⌜ Closes (leb whole reached) p stop r (now (out .entry)) (now (out .exit)) ⌝ }
+// How a stretch closes, behind the text of its records: where no record of the tape is left and the end finds room, the end is put.
+pub fn close(p: Playing, tape: &[u8], stop: usize, out: &mut [u8]) -> Stretch
+    requires { ⌜ Ready p × (length (now tape) ≤ tapeMost) × (stop ≤ length (now out)) ⌝ }
+    ensures { λ r. ⌜ Plays stop (closing (length (now (out .entry)) - stop) p (left p (now (tape .entry)))) r
+        (now (out .entry)) (now (out .exit)) ⌝ }
 {
-    if whole <= reached {
+    let reader = p.reader;
+    if tape.len() <= records::RECORD_LENGTH * reader.place {
         if MOST_ENDING <= out.len() - stop {
             let end = put_ending(p, stop, out);
             return Stretch {

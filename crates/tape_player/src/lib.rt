@@ -1,6 +1,6 @@
 // The tape program's work: a tape is played in stretches, each into a buffer for the text. What a stretch is stands in `tape_output`.
 mod ending;
 mod player;
-mod record_text;
+mod stretch_text;
 
 pub use player::play_on;

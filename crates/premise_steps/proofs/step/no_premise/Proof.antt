@@ -8,7 +8,7 @@ use Rattle.premise.specs.declared.PremiseAfter.{PremiseAfter}
 use Rattle.premise.specs.OnePremise.{step}
 use Rattle.premise_steps.proofs.replies.Decided.{on}
 use Rattle.premise_steps.proofs.replies.Answered.{answered-quiet}
-use Rattle.premise_steps.proofs.step.ByAnswer.{no-file}
+use Rattle.premise_steps.proofs.CreateRetire.{no-file}
 use Rattle.premise_steps.proofs.step.Slots.{slot-none, none-form}
 use Rattle.premise_steps.proofs.step.no_premise.Statement.{statement}
 use Rattle.premise_steps.proofs.step.no_premise.Tie as tie

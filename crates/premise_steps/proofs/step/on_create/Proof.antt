@@ -9,7 +9,7 @@ use Rattle.premise.specs.OnePremise.{step}
 use Rattle.premise_steps.specs.Answering.{replying}
 use Rattle.premise_steps.proofs.replies.Decided.{on}
 use Rattle.premise_steps.proofs.replies.Answered.{answered-quiet}
-use Rattle.premise_steps.proofs.step.ByAnswer.{create-held, create-done}
+use Rattle.premise_steps.proofs.CreateRetire.{create-held, create-done}
 use Rattle.premise_steps.proofs.step.Slots.{slot-held, slot-none}
 use Rattle.premise_steps.proofs.step.on_create.Statement.{statement}
 use Rattle.premise_steps.proofs.step.on_create.Tie as tie

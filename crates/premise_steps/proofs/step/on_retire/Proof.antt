@@ -9,7 +9,7 @@ use Rattle.premise.specs.declared.File.{File}
 use Rattle.premise.specs.declared.PremiseAfter.{PremiseAfter}
 use Rattle.premise_steps.proofs.replies.Decided.{on}
 use Rattle.premise_steps.proofs.replies.Answered.{answered-quiet}
-use Rattle.premise_steps.proofs.step.ByAnswer.{retire-open, retire-done}
+use Rattle.premise_steps.proofs.CreateRetire.{retire-open, retire-done}
 use Rattle.premise_steps.proofs.step.on_retire.Statement.{statement}
 use Rattle.premise_steps.proofs.step.on_retire.Tie as tie
 

@@ -1,23 +1,36 @@
--- `play` meets its contract: the tape is cut, and its own buffers are long enough. Assumes nothing.
+-- `play` meets its contract: calendar and tape are cut, and its own buffers have the lengths that are asked. Assumes nothing.
 use Prim.Native.Nat.{ℕ, _≤_}
+use mathlib.Core.Path.{_≡_, sym}
 use borrow.Author.Needs.{needs}
 use native.Mathlib.Omega.{arith}
-use lib.ListN.{length, replicate, length-replicate}
+use lib.ListN.{length, replicate, length-replicate, length-take}
 use Rattle.tape_io.proofs.playing.play.Statement.{statement}
 use Rattle.tape_io.proofs.playing.play.Tie as tie
 
--- a buffer of so many zeros is long enough: its length is not counted out
-long : (many : ℕ) {most : ℕ} → most ≤ many → most ≤ length {A = ℕ} (replicate many 0)
-long many h = rw (length-replicate {A = ℕ} many 0) h
+-- a buffer of so many zeros: its length is not counted out
+many : (n : ℕ) → length {A = ℕ} (replicate n 0) ≡ n
+many n = length-replicate {A = ℕ} n 0
+
+long : (n : ℕ) {most : ℕ} → most ≤ n → most ≤ length {A = ℕ} (replicate n 0)
+long n h = rw (many n) h
 
 play-in-requires : tie.Need-play-in-requires
-play-in-requires c κs = (search needs, record { notices = long 24576 (omega arith); text = long 131072 (omega arith) })
+play-in-requires c κs = (
+  search needs,
+  (search needs, record { answers = many 64; counts = long 64 (omega arith); notices = many 49152; text = long 131072 (omega arith) }),
+)
 
 pub play-spec : {M : Type 1} → statement M
 play-spec =
     tie.close
     (tie.spec
     (λ c κs. search needs)
+    (λ c κs. search needs)
+    (λ c. search needs)
+    (λ c. search needs)
+    (λ c. search needs)
+    (λ c. search needs)
+    (λ c. search needs)
     (λ c. search needs)
     (λ c. search needs)
     (λ c. search needs)

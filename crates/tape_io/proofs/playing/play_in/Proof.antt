@@ -1,75 +1,82 @@
 -- `play_in` meets its contract. The loop's invariant: the tape can be played on, in buffers of the same lengths. The measure is
 -- the records left. Assumes nothing.
 use Prim.Native.Nat.{_-_}
+use mathlib.Core.Path.{_∙_}
 use borrow.Author.Needs.{needs}
 use Rattle.tape_reader.specs.Counts.{mostRecords}
-use Rattle.tape_io.proofs.playing.Stretches.{Between, between-first, text-stands, between-next, fewer-left}
+use Rattle.tape_io.proofs.playing.Stretches.{Buffers, SameLengths, Between, between-first, text-stands, between-next, fewer-left}
 use Rattle.tape_io.proofs.playing.play_in.Statement.{statement}
 use Rattle.tape_io.proofs.playing.play_in.Tie as tie
 
 abbrev Inv-loop : tie.InvT-loop
-Inv-loop calendar tape notices₀ out₀ p₀ notices out p = Between tape notices₀ out₀ notices out p
+Inv-loop calendar tape answers₀ counts₀ notices₀ out₀ p₀ answers counts notices out p =
+    Between tape (record { answers = answers₀; counts = counts₀; notices = notices₀; out = out₀ })
+    (record { answers = answers; counts = counts; notices = notices; out = out }) p
 
 abbrev μ-loop : tie.MeasureT-loop
-μ-loop calendar tape notices₀ out₀ p₀ notices out p = mostRecords - p .reader .place
-
-start-requires : tie.Need-start-requires Inv-loop μ-loop
-start-requires c κs = search needs
+μ-loop calendar tape answers₀ counts₀ notices₀ out₀ p₀ answers counts notices out p = mostRecords - p .reader .place
 
 loop-holds : tie.Need-loop-holds Inv-loop μ-loop
 loop-holds c =
-    let pre = c .before .before .before .before .before .pre in
-    between-first _ _ _ _ (c .start .ensures) (pre .0) (pre .1)
+    let s = c .before .before .before .before .before .before .before in
+    let a = s .args in
+    between-first (a .tape .now) (record { answers = a .answers .now; counts = a .counts .now; notices = a .notices .now; out = a .out .now }) _
+    (c .start .ensures) (s .pre .1 .0) (s .pre .1 .1)
+
+-- ---- a stretch is played
+abbrev Stretched : Type 0
+Stretched = tie.After-play-on Inv-loop μ-loop
+
+abbrev at : Stretched → tie.At-loop Inv-loop μ-loop
+at y = y .before .before .before .before .before
+
+abbrev buffers : Stretched → Buffers
+buffers y = record { answers = at y .loop .answers; counts = at y .loop .counts; notices = at y .loop .notices; out = at y .loop .out }
+
+abbrev left : Stretched → Buffers
+left y =
+    record {
+      answers = y .play-on .last .1 .1 .1 .0;
+      counts = y .play-on .last .1 .1 .1 .1 .0;
+      notices = y .play-on .last .1 .1 .1 .1 .1 .0;
+      out = y .play-on .last .1 .1 .1 .1 .1 .1 .0;
+    }
+
+kept : (y : Stretched) → SameLengths (buffers y) (left y)
+kept y =
+    record {
+      answers = y .play-on .kept .1 .1 .1 .0;
+      counts = y .play-on .kept .1 .1 .1 .1 .0;
+      notices = y .play-on .kept .1 .1 .1 .1 .1 .0;
+      out = y .play-on .kept .1 .1 .1 .1 .1 .1 .0;
+    }
 
 play-on-requires : tie.Need-play-on-requires Inv-loop μ-loop
-play-on-requires c κs = search needs
-
-sub-write-all : tie.Need-sub-write-all Inv-loop μ-loop
-sub-write-all c = search needs
-
-part-write-all-start : tie.Need-part-write-all-start Inv-loop μ-loop
-part-write-all-start c = search needs
+play-on-requires c κs = let v = c .before .before .before .before .loop .inv in (v .ready, v .short, v .room)
 
 part-write-all-end : tie.Need-part-write-all-end Inv-loop μ-loop
 part-write-all-end c =
-    text-stands _ _ _ _ _ _ _ (c .before .before .before .before .before .before .before .before .loop .inv) _ _
-    (c .before .before .before .before .before .play-on .ensures)
-    (c .before .before .before .before .before .play-on .kept .1 .1 .1 .1 .0)
-
-write-all-requires : tie.Need-write-all-requires Inv-loop μ-loop
-write-all-requires c κs = search needs
-
-same-length : tie.Need-same-length Inv-loop μ-loop
-same-length c = search needs
-
-same-length-2 : tie.Need-same-length-2 Inv-loop μ-loop
-same-length-2 c = search needs
-
-returns : tie.Need-returns Inv-loop μ-loop
-returns c = search needs
-
-same-length-3 : tie.Need-same-length-3 Inv-loop μ-loop
-same-length-3 c = search needs
-
-same-length-4 : tie.Need-same-length-4 Inv-loop μ-loop
-same-length-4 c = search needs
-
-returns-2 : tie.Need-returns-2 Inv-loop μ-loop
-returns-2 c = search needs
+    let y = c .before .before .before .before .before .before .before .before .before in
+    text-stands _ _ _ (buffers y) _ (at y .loop .inv) (left y) _ (y .play-on .ensures) (kept y)
 
 loop-less : tie.Need-loop-less Inv-loop μ-loop
-loop-less c = fewer-left _ _ _ _ _ _ _
-    (c .before .before .before .before .before .before .before .before .before .before .before .before .before .loop .inv) _ _
-    (c .before .before .before .before .before .before .before .before .before .before .play-on .ensures)
-    (c .before .before .before .before .before .before .before .before .before .before .play-on .kept .1 .1 .1 .1 .0)
-    (c .before .if2 .left)
+loop-less c =
+    let y = c .before .before .before .before .before .before .before .before .before .before .before .before .before .before in
+    fewer-left _ _ _ (buffers y) _ (at y .loop .inv) (left y) _ (y .play-on .ensures) (kept y) (c .before .if2 .left)
 
 loop-again : tie.Need-loop-again Inv-loop μ-loop
-loop-again c = between-next _ _ _ _ _ _ _
-    (c .before .before .before .before .before .before .before .before .before .before .before .before .before .loop .inv) _ _
-    (c .before .before .before .before .before .before .before .before .before .before .play-on .ensures)
-    (c .before .before .before .before .before .before .before .before .before .before .play-on .kept .1 .1 .1 .1 .0) _
-    (c .before .before .before .before .before .before .before .before .before .before .play-on .kept .1 .1 .1 .0)
+loop-again c =
+    let y = c .before .before .before .before .before .before .before .before .before .before .before .before .before .before in
+    between-next _ _ _ (buffers y) _ (at y .loop .inv) (left y) _ (y .play-on .ensures) (kept y)
+
+-- ---- the buffers keep their lengths
+abbrev lent : Stretched → Buffers
+lent y =
+    let a = at y .before .before .before .before .before .before .before .before .args in
+    record { answers = a .answers .now; counts = a .counts .now; notices = a .notices .now; out = a .out .now }
+
+same : (y : Stretched) → SameLengths (lent y) (left y)
+same y = between-next _ _ (lent y) (buffers y) _ (at y .loop .inv) (left y) _ (y .play-on .ensures) (kept y) .same
 
 pub play-in-spec : {M : Type 1} → statement M
 play-in-spec =
@@ -77,18 +84,22 @@ play-in-spec =
     (tie.spec
     Inv-loop
     μ-loop
-    start-requires
+    (λ c κs. search needs)
     loop-holds
     play-on-requires
-    sub-write-all
-    part-write-all-start
+    (λ c. search needs)
+    (λ c. search needs)
     part-write-all-end
-    write-all-requires
-    same-length
-    same-length-2
-    returns
-    same-length-3
-    same-length-4
-    returns-2
+    (λ c κs. search needs)
+    (λ c. same (c .before .before .before .before .before .before .before .before .before .before .before .before) .answers)
+    (λ c. same (c .before .before .before .before .before .before .before .before .before .before .before .before) .counts)
+    (λ c. same (c .before .before .before .before .before .before .before .before .before .before .before .before) .notices)
+    (λ c. same (c .before .before .before .before .before .before .before .before .before .before .before .before) .out)
+    (λ c. search needs)
+    (λ c. same (c .before .before .before .before .before .before .before .before .before .before .before .before .before) .answers)
+    (λ c. same (c .before .before .before .before .before .before .before .before .before .before .before .before .before) .counts)
+    (λ c. same (c .before .before .before .before .before .before .before .before .before .before .before .before .before) .notices)
+    (λ c. same (c .before .before .before .before .before .before .before .before .before .before .before .before .before) .out)
+    (λ c. search needs)
     loop-less
     loop-again)

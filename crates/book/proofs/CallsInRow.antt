@@ -1,0 +1,165 @@
+-- Record calls in a row: the records of a stretch of tape, the single call of each, and their course. Assumes nothing.
+use Prim.Native.Nat.{ℕ, zero, suc, _+_, _*_, _-_, _≤_, _<_, min}
+use mathlib.Core.Path.{_≡_, refl, sym, ap, ap₂, _∙_}
+use mathlib.Core.List.{List, [], _∷_}
+use mathlib.Core.Bool.{Bool, true, false}
+use native.Mathlib.Omega.{arith}
+use lib.Dec.{ltb}
+use lib.ListN.{length, take, drop, replicate, length-replicate, length-drop, length-append}
+use lib.Seq.{take-nil, drop-drop, drop-nil}
+use borrow.Author.Tests.{ltb-false, lt-ltb, le-ltb}
+use Rattle.lists.specs.Search.{Each}
+use Rattle.lists.proofs.Find.{drop-none}
+use Rattle.records.specs.Layout.{recordLength}
+use Rattle.book.specs.declared.Book.{Book}
+use Rattle.book.specs.Book.{bookKept}
+use Rattle.book.specs.Calls.{noticeBytes, Result, call}
+use Rattle.book.specs.CallsInRow.{recordsOf, called, Course, stopped, andThen, callsInRow, noticesOf}
+use Rattle.book.proofs.Rows.{record-decides}
+use Rattle.book.proofs.Keeps.{call-keeps}
+use Rattle.book.proofs.Few.{call-few}
+
+-- ---- the records of a stretch: none, or one and the others
+pub records-few : (most : ℕ) (tape : List ℕ) → length (recordsOf most tape) ≤ most
+records-few zero tape = omega arith
+records-few (suc most) [] = omega arith
+records-few (suc most) (byte ∷ tape) = omega (arith, records-few most (drop recordLength (byte ∷ tape)))
+
+pub records-none : (most : ℕ) → recordsOf most [] ≡ []
+records-none zero = refl
+records-none (suc most) = refl
+
+pub records-over : (most from : ℕ) (tape : List ℕ) → length tape ≤ from → recordsOf most (drop from tape) ≡ []
+records-over most from tape h = ap (recordsOf most) (drop-none tape from h) ∙ records-none most
+
+pub records-next : (most : ℕ) (tape : List ℕ) → 0 < most → 0 < length tape
+    → recordsOf most tape ≡ take recordLength tape ∷ recordsOf (most - 1) (drop recordLength tape)
+records-next zero tape h k = absurd (omega arith)
+records-next (suc most) [] h k = absurd (omega arith)
+records-next (suc most) (byte ∷ tape) h k =
+    let e : most ≡ suc most - 1 = omega arith in
+    ap (λ (m : ℕ). take recordLength (byte ∷ tape) ∷ recordsOf m (drop recordLength (byte ∷ tape))) e
+
+-- those after the first n are the records of the bytes after them
+pub records-after : (n most : ℕ) (tape : List ℕ) → drop n (recordsOf most tape) ≡ recordsOf (most - n) (drop (recordLength * n) tape)
+records-after zero most tape = let e : most - 0 ≡ most = omega arith in ap (λ (m : ℕ). recordsOf m tape) (sym e)
+records-after (suc n) zero tape = let e : 0 - suc n ≡ 0 = omega arith in rw e refl
+records-after (suc n) (suc most) [] =
+    sym (ap (recordsOf (suc most - suc n)) (drop-nil (recordLength * suc n)) ∙ records-none (suc most - suc n))
+records-after (suc n) (suc most) (byte ∷ tape) =
+    let e : most - n ≡ suc most - suc n = omega arith in
+    let f : recordLength + recordLength * n ≡ recordLength * suc n = omega arith in
+    records-after n most (drop recordLength (byte ∷ tape))
+    ∙ ap₂ recordsOf e (drop-drop (recordLength * n) recordLength (byte ∷ tape) ∙ ap (λ (m : ℕ). drop m (byte ∷ tape)) f)
+
+-- ---- a record's bytes, of which the last may have fewer than 24, as code lends them
+take-within : {X : Type 0} (m n : ℕ) (l : List X) → min m (length l) ≡ min n (length l) → take m l ≡ take n l
+take-within m n [] e = take-nil m ∙ sym (take-nil n)
+take-within zero zero (x ∷ l) e = refl
+take-within zero (suc n) (x ∷ l) e = absurd (omega arith)
+take-within (suc m) zero (x ∷ l) e = absurd (omega arith)
+take-within {X} (suc m) (suc n) (x ∷ l) e = ap (λ (k : List X). x ∷ k) (take-within m n l (omega arith))
+
+pub lent-record : (tape : List ℕ) (from to : ℕ) → to ≡ min (from + recordLength) (length tape)
+    → take (to - from) (drop from tape) ≡ take recordLength (drop from tape)
+lent-record tape from to e = take-within (to - from) recordLength (drop from tape) (omega (arith, length-drop from tape))
+
+-- ---- the single call of a record
+-- Of its buffer a call sees only whether it is long enough.
+call-lent : (calendar : List ℕ) (b : Book) (bytes lent other : List ℕ) → bookKept b ≡ true → noticeBytes ≤ length lent
+    → noticeBytes ≤ length other
+    → call calendar b bytes lent ≡ call calendar b bytes other
+unfolding call
+call-lent calendar b bytes lent other kept h k =
+    rw (record-decides calendar b bytes lent h kept, record-decides calendar b bytes other k kept)
+
+pub called-room : noticeBytes ≤ length {A = ℕ} (replicate noticeBytes 0)
+called-room = omega (arith, length-replicate {A = ℕ} noticeBytes 0)
+
+pub called-lent : (calendar : List ℕ) (b : Book) (bytes lent : List ℕ) → bookKept b ≡ true → noticeBytes ≤ length lent
+    → call calendar b bytes lent ≡ called calendar b bytes
+called-lent calendar b bytes lent kept room = call-lent calendar b bytes lent (replicate noticeBytes 0) kept room called-room
+
+pub called-few : (calendar : List ℕ) (b : Book) (bytes : List ℕ) → recordLength * length (called calendar b bytes .notices) ≤ noticeBytes
+called-few calendar b bytes =
+    omega (arith, call-few calendar b bytes (replicate noticeBytes 0), length-replicate {A = ℕ} noticeBytes 0)
+
+pub called-keeps : (calendar : List ℕ) (b : Book) (bytes : List ℕ) → bookKept b ≡ true → bookKept (called calendar b bytes .book) ≡ true
+called-keeps calendar b bytes kept = call-keeps calendar b bytes (replicate noticeBytes 0) kept
+
+-- ---- the course of calls in a row
+-- what is left free of some bytes after a record's call
+abbrev pub freeAfter : List ℕ → ℕ → Book → List ℕ → ℕ
+freeAfter calendar free b bytes = free - recordLength * length (called calendar b bytes .notices)
+
+module _ (calendar : List ℕ) (free : ℕ) (b : Book) where
+  -- no record is left
+  pub row-none : callsInRow calendar free b [] ≡ stopped b []
+  unfolding callsInRow
+  row-none = refl
+
+  -- a record is played, and the others after it
+  pub row-next : (bytes : List ℕ) (rest : List (List ℕ)) → noticeBytes ≤ free
+      → callsInRow calendar free b (bytes ∷ rest)
+      ≡ andThen (called calendar b bytes) (callsInRow calendar (freeAfter calendar free b bytes) (called calendar b bytes .book) rest)
+  unfolding callsInRow
+  row-next bytes rest h = rw (le-ltb free noticeBytes h)
+
+  -- fewer than 24,576 bytes are free: no other is played
+  pub row-stops : (records : List (List ℕ)) → free < noticeBytes → callsInRow calendar free b records ≡ stopped b records
+  unfolding callsInRow
+  row-stops [] h = refl
+  row-stops (bytes ∷ rest) h = rw (lt-ltb free noticeBytes h)
+
+-- What holds of a course that stops at once, and of a call and the others after it where it holds of these, holds of every course.
+pub by-row : (P : ℕ → Book → List (List ℕ) → Course → Type 0) (calendar : List ℕ)
+    → ((free : ℕ) (b : Book) (records : List (List ℕ)) → P free b records (stopped b records))
+    → ((free : ℕ) (b : Book) (bytes : List ℕ) (rest : List (List ℕ)) (c : Course) → noticeBytes ≤ free
+    → P (freeAfter calendar free b bytes) (called calendar b bytes .book) rest c
+    → P free b (bytes ∷ rest) (andThen (called calendar b bytes) c))
+    → (free : ℕ) (b : Book) (records : List (List ℕ)) → P free b records (callsInRow calendar free b records)
+unfolding callsInRow
+by-row P calendar stop more free b [] = stop free b []
+by-row P calendar stop more free b (bytes ∷ rest) =
+    go (ltb free noticeBytes) refl (by-row P calendar stop more (freeAfter calendar free b bytes) (called calendar b bytes .book) rest)
+  where
+    go : (full : Bool) → ltb free noticeBytes ≡ full
+        → P (freeAfter calendar free b bytes) (called calendar b bytes .book) rest
+        (callsInRow calendar (freeAfter calendar free b bytes) (called calendar b bytes .book) rest)
+        → P free b (bytes ∷ rest) (callsInRow calendar free b (bytes ∷ rest))
+    go true t ih = rw t (stop free b (bytes ∷ rest))
+    go false t ih = rw t (more free b bytes rest _ (ltb-false free noticeBytes t) ih)
+
+module _ (calendar : List ℕ) where
+  -- every call leaves a well-kept book
+  pub row-keeps : (free : ℕ) (b : Book) (records : List (List ℕ)) → bookKept b ≡ true → bookKept (callsInRow calendar free b records .book) ≡ true
+  row-keeps = by-row (λ free b records c. bookKept b ≡ true → bookKept (c .book) ≡ true) calendar (λ free b records k. k)
+      (λ free b bytes rest c h ih k. ih (called-keeps calendar b bytes k))
+
+  -- the notices fit, and those of each call are few
+  pub row-few : (free : ℕ) (b : Book) (records : List (List ℕ))
+      → recordLength * length (noticesOf (callsInRow calendar free b records .results)) ≤ free
+  row-few = by-row (λ free b records c. recordLength * length (noticesOf (c .results)) ≤ free) calendar (λ free b records. omega arith)
+      (λ free b bytes rest c h ih. omega (
+        arith,
+        h,
+        ih,
+        called-few calendar b bytes,
+        length-append (called calendar b bytes .notices) (noticesOf (c .results)),
+      ))
+
+  pub row-each-few : (free : ℕ) (b : Book) (records : List (List ℕ))
+      → Each (λ (x : Result). recordLength * length (x .notices) ≤ noticeBytes) (callsInRow calendar free b records .results)
+  row-each-few = by-row (λ free b records c. Each (λ (x : Result). recordLength * length (x .notices) ≤ noticeBytes) (c .results)) calendar
+      (λ free b records. tt) (λ free b bytes rest c h ih. (called-few calendar b bytes, ih))
+
+  -- each record is played or left
+  pub row-left : (free : ℕ) (b : Book) (records : List (List ℕ))
+      → callsInRow calendar free b records .left ≡ drop (length (callsInRow calendar free b records .results)) records
+  row-left = by-row (λ free b records c. c .left ≡ drop (length (c .results)) records) calendar (λ free b records. refl)
+      (λ free b bytes rest c h ih. ih)
+
+  pub row-played : (free : ℕ) (b : Book) (records : List (List ℕ))
+      → length (callsInRow calendar free b records .results) ≤ length records
+  row-played = by-row (λ free b records c. length (c .results) ≤ length records) calendar (λ free b records. omega arith)
+      (λ free b bytes rest c h ih. omega (arith, ih))

@@ -1,0 +1,201 @@
+-- Each way that the call of a record is made on a book that stays in its place. Assumes nothing.
+use Prim.Native.Nat.{ℕ, _*_, _-_, _≤_, _<_}
+use mathlib.Core.Path.{_≡_, refl, sym, ap, subst, subst⁻¹, _∙_}
+use mathlib.Core.List.{List, []}
+use mathlib.Core.Option.{some}
+use mathlib.Core.Bool.{Bool, true, false, cond}
+use native.Mathlib.Omega.{arith}
+use lib.ListN.{length, getD, length-map}
+use lib.Seq.{getD-take}
+use borrow.Author.Tests.{ne-eqb}
+use Rattle.lists.specs.Search.{anyOf}
+use Rattle.lists.specs.Shift.{inserted, removed}
+use Rattle.lists.proofs.SearchLaws.{each-at}
+use Rattle.days.specs.Days.{lastDay}
+use Rattle.records.specs.declared.Record.{Record}
+use Rattle.records.specs.declared.Notice.{Notice}
+use Rattle.records.specs.Layout.{recordLength}
+use Rattle.records.specs.Records.{kindNewOrder, kindDayMark}
+use Rattle.records.proofs.Readings.{says}
+use Rattle.premise.specs.declared.File.{File}
+use Rattle.premise.specs.declared.Answer.{Answer}
+use Rattle.premise.specs.declared.Answer.the-variants.{Accepted, OrderOpen}
+use Rattle.premise.specs.Orders.{isOpen, held}
+use Rattle.premise.specs.Steps.{newFile}
+use Rattle.premise.specs.WellKept.{Tidy, FileKept}
+use Rattle.premise.specs.OnePremise.{givenOn}
+use Rattle.premise.specs.Promises.{Writes, OnFile}
+use Rattle.premise_laws.proofs.Few.{step-few}
+use Rattle.premise_laws.proofs.Writes.{writes-none}
+use Rattle.book.specs.declared.Book.{Book}
+use Rattle.book.specs.Book.{mostFiles, filesOf, bookOf, bookKept}
+use Rattle.book.specs.Calls.{noticeBytes, Result, refusal}
+use Rattle.book.specs.CallsInRow.{called}
+use Rattle.book.specs.Laws.{TidyBook, BookKept, withFileAt, numbersOf}
+use Rattle.book.proofs.Kept.{count-is, book-kept-means}
+use Rattle.book.proofs.OnHeld.{call-on-held}
+use Rattle.book.proofs.ByReading.{mark-keeps-numbers}
+use Rattle.book.proofs.CallsInRow.{called-room}
+use Rattle.book_files.proofs.Tidy.{past, length-files}
+use Rattle.book_calls.specs.declared.dispatch.Task.{Task}
+use Rattle.book_calls.specs.declared.dispatch.Task.the-variants.{Refused, Opens, Closes, NextDay}
+use Rattle.book_calls.specs.declared.dispatch.Task.the-variants as variant
+use Rattle.book_calls.specs.declared.files.FileReply.{FileReply}
+use Rattle.book_calls.specs.declared.files.Retired.{Retired}
+use Rattle.book_calls.specs.FileSteps.{FileGiven, Retires}
+use Rattle.book_calls.specs.Tasks.{taskOf, Known, KnownOpens, KnownCloses, KnownHeld}
+use Rattle.book_calls.proofs.Marking.{Asked, Marking, dated, mark-asks, mark-book, mark-wrote}
+use Rattle.book_calls.proofs.Tasks.{task-known}
+
+-- a well-kept book, the premise numbers of its places, and a buffer in which some notices stand and those of any call find room
+pub record Standing (b : Book) (numbers : List ℕ) (standing : ℕ) (buffer : List ℕ) : Type 0 where
+  pub kept : bookKept b ≡ true
+  pub own : numbers ≡ numbersOf b
+  pub room : noticeBytes ≤ length buffer - recordLength * standing
+
+-- what stands after a record's call: its answer, how many notices stand then, the book with its premise numbers, and the buffer
+pub record Outcome : Type 0 where
+  pub answer : Answer
+  pub sent : ℕ
+  pub book : Book
+  pub numbers : List ℕ
+  pub buffer : List ℕ
+
+-- .. by whichever way it was made
+pub record Made (calendar : List ℕ) (b : Book) (bytes : List ℕ) (standing : ℕ) (buffer : List ℕ) (o : Outcome) : Type 0 where
+  pub answer : o .answer ≡ called calendar b bytes .answer
+  pub book : o .book ≡ called calendar b bytes .book
+  pub wrote : Writes standing buffer (o .buffer) (o .sent) (called calendar b bytes .notices)
+  pub own : o .numbers ≡ numbersOf (o .book)
+
+pub made-as : {calendar : List ℕ} {b : Book} {bytes : List ℕ} {standing : ℕ} {buffer : List ℕ} {o o' : Outcome} → o ≡ o'
+    → Made calendar b bytes standing buffer o' → Made calendar b bytes standing buffer o
+made-as {calendar} {b} {bytes} {standing} {buffer} e m = subst⁻¹ (Made calendar b bytes standing buffer) e m
+
+-- what the call comes to, and what was done
+made-of : {calendar : List ℕ} {b : Book} {bytes : List ℕ} {standing : ℕ} {buffer : List ℕ} {o : Outcome} (result : Result)
+    → called calendar b bytes ≡ result → o .answer ≡ result .answer → o .book ≡ result .book
+    → Writes standing buffer (o .buffer) (o .sent) (result .notices) → o .numbers ≡ numbersOf (o .book)
+    → Made calendar b bytes standing buffer o
+made-of {standing = standing} {buffer = buffer} {o = o} result e answer book wrote own =
+    record {
+      answer = answer ∙ sym (ap (λ (x : Result). x .answer) e);
+      book = book ∙ sym (ap (λ (x : Result). x .book) e);
+      wrote = subst⁻¹ (λ (x : Result). Writes standing buffer (o .buffer) (o .sent) (x .notices)) e wrote;
+      own = own;
+    }
+
+module _ {b : Book} {numbers : List ℕ} {standing : ℕ} {buffer : List ℕ} (t : Standing b numbers standing buffer) where
+  pub well-kept : BookKept b
+  well-kept = book-kept-means b .0 (t .kept)
+
+  -- each place has its number
+  pub each-place : mostFiles ≡ length numbers
+  each-place = sym (ap length (t .own) ∙ length-map (b .files) (λ (f : File). f .premise) ∙ length-files b (well-kept .tidy))
+
+  pub task-asks : (b .today ≤ lastDay) × (b .count ≤ length numbers)
+  task-asks = (well-kept .today, omega (arith, each-place, well-kept .tidy .few))
+
+  -- what a day mark asks
+  pub day-asks : (calendar : List ℕ) (day : ℕ) → Asked calendar day b standing buffer
+  day-asks calendar day = mark-asks calendar b day standing buffer well-kept (t .room)
+
+  -- a file of the book is well kept
+  file-kept : (at : ℕ) → at < b .count → FileKept (getD (b .files) at past)
+  file-kept at h =
+      subst FileKept (getD-take (b .count) (b .files) at past h)
+      (each-at FileKept (filesOf b) at past (omega (arith, h, count-is b (well-kept .tidy))) (well-kept .files))
+
+  -- ---- by what was found
+  module _ (bytes : List ℕ) {task : Task} (e : task ≡ taskOf bytes (b .today) numbers (b .count)) where
+    known : (k : Task) → task ≡ k → Known bytes b past k
+    known k is = subst (Known bytes b past) (sym e ∙ is) (task-known bytes b (t .kept) numbers (t .own))
+
+    pub by-refusal : {calendar : List ℕ} {answer : Answer} → task ≡ Refused answer
+        → Made calendar b bytes standing buffer (record { answer = answer; sent = standing; book = b; numbers = numbers; buffer = buffer })
+    by-refusal {calendar} {answer} is =
+        made-of _ (known (Refused answer) is .result calendar) refl refl (writes-none standing buffer) (t .own)
+
+    -- ---- a record on the file at a place
+    module _ {at : ℕ} {r : Record} (is : task ≡ variant.OnFile at r) where
+      found : KnownHeld bytes b past at r
+      found = known (variant.OnFile at r) is
+
+      pub held-place : at < mostFiles
+      held-place = omega (arith, found .held .within, well-kept .tidy .few)
+
+      pub held-asks : (calendar : List ℕ) → OnFile kindNewOrder calendar (b .today) (getD (b .files) at past) r standing buffer
+      held-asks calendar =
+          let f = file-kept at (found .held .within) in
+          record {
+            tidy = f .tidy;
+            from = found .held .from;
+            upto = found .held .upto;
+            room = omega (
+              arith,
+              step-few calendar (record { today = b .today; file = some (getD (b .files) at past) }) r
+                  (says bytes r (found .says) .formed)
+                  (ne-eqb (r .kind) kindDayMark (λ q. omega (arith, q, found .held .upto)))
+                  f,
+              t .room,
+            );
+          }
+
+      pub by-file : {calendar : List ℕ} (p : FileReply) {after : List ℕ}
+          → FileGiven (givenOn calendar (b .today) (some (getD (b .files) at past)) r) standing p buffer after
+          → Made calendar b bytes standing buffer
+          (record { answer = p .answer; sent = p .sent; book = withFileAt b at (p .file); numbers = numbers; buffer = after })
+      by-file {calendar} p gives =
+          let stores = call-on-held calendar b bytes _ r at past (p .file) (t .kept) called-room (found .says) (found .held)
+          (sym (gives .file)) in
+          made-of _ (stores .result) (gives .answer) refl (gives .wrote) (t .own ∙ sym (stores .numbers))
+
+    -- ---- a mark of the next day
+    pub by-marks : {calendar : List ℕ} {day : ℕ} → task ≡ NextDay day → {i sent : ℕ} {c : Book} {after : List ℕ}
+        → Marking calendar day (dated day b) standing buffer i sent c after → b .count ≤ i
+        → Made calendar b bytes standing buffer (record { answer = Accepted; sent = sent; book = c; numbers = numbers; buffer = after })
+    by-marks {calendar} {day} is m end =
+        made-of _ (known (NextDay day) is .result calendar) refl (mark-book m end) (mark-wrote m end)
+        (t .own ∙ sym (ap numbersOf (mark-book m end) ∙ mark-keeps-numbers calendar b day well-kept))
+
+    -- ---- a create opens a place
+    module _ {at : ℕ} {r : Record} (is : task ≡ Opens at r) where
+      opens : KnownOpens bytes b at r
+      opens = known (Opens at r) is
+
+      pub open-asks : TidyBook b × (at ≤ b .count) × (b .count < mostFiles)
+      open-asks = (well-kept .tidy, opens .within, opens .free)
+
+      pub by-opening : {calendar : List ℕ} {f : File} {c : Book} {after : List ℕ} → f ≡ newFile r
+          → c ≡ bookOf (b .today) (inserted at f (filesOf b)) → after ≡ numbersOf c
+          → Made calendar b bytes standing buffer (record { answer = Accepted; sent = standing; book = c; numbers = after; buffer = buffer })
+      by-opening {calendar} new put own =
+          made-of _ (opens .result calendar) refl (put ∙ ap (λ (g : File). bookOf (b .today) (inserted at g (filesOf b))) new)
+          (writes-none standing buffer) own
+
+    -- ---- a retire closes one
+    module _ {at : ℕ} (is : task ≡ Closes at) where
+      closes : KnownCloses bytes b past at
+      closes = known (Closes at) is
+
+      pub close-place : at < mostFiles
+      close-place = omega (arith, closes .within, well-kept .tidy .few)
+
+      pub close-asks : TidyBook b × (at < b .count) × Tidy (getD (b .files) at past)
+      close-asks = (well-kept .tidy, closes .within, file-kept at (closes .within) .tidy)
+
+      pub by-closing : {calendar : List ℕ} (p : Retired) {after : List ℕ} → Retires b at (getD (b .files) at past) p
+          → after ≡ numbersOf (p .book)
+          → Made calendar b bytes standing buffer
+          (record { answer = p .answer; sent = standing; book = p .book; numbers = after; buffer = buffer })
+      by-closing {calendar} p gives own =
+          made-of _ (closes .result calendar) (gives .answer) (gives .book)
+          (subst (λ (l : List Notice). Writes standing buffer buffer standing l) (silent (anyOf isOpen (held (getD (b .files) at past))))
+          (writes-none standing buffer))
+          own
+        where
+          -- neither a refusal nor an acceptance gives a notice
+          silent : (one : Bool) → [] ≡ cond one (refusal OrderOpen b)
+              (record { answer = Accepted; notices = []; book = bookOf (b .today) (removed at (filesOf b)) }) .notices
+          silent true = refl
+          silent false = refl

@@ -1,0 +1,66 @@
+-- `task_of` meets its contract: row 3 for malformed bytes; else by the kind. Assumes nothing.
+use mathlib.Core.Path.{sym, _∙_}
+use mathlib.Core.Logic.{inl, inr, ⊎-elim}
+use native.Mathlib.Omega.{arith}
+use lib.ListN.{take}
+use borrow.Author.Needs.{needs}
+use Rattle.book_calls.proofs.Tasks.{task-read}
+use Rattle.book_calls.proofs.dispatch.Ways.{kind-new, kind-held, kind-mark}
+use Rattle.book_calls.proofs.dispatch.task_of.Statement.{statement}
+use Rattle.book_calls.proofs.dispatch.task_of.Tie as tie
+
+returns : tie.Need-returns
+returns c =
+    let w = c .before .before in
+    let a = w .before .before .before .args in
+    sym (task-read (a .bytes .now) (a .today) (a .premises .now) (a .count) _ (sym (w .read-record .ensures) ∙ c .enum-told .given .1))
+
+returns-2 : tie.Need-returns-2
+returns-2 c =
+    let m = c .before in
+    let d = m .before .before in
+    let w = d .before .before in
+    let a = w .before .before .before .args in
+    c .on-new .ensures ∙ sym
+    (task-read (a .bytes .now) (a .today) (a .premises .now) (a .count) _ (sym (w .read-record .ensures) ∙ d .reading .given .1)
+    ∙ kind-new (a .today) (take (a .count) (a .premises .now)) (a .count) (d .reading .given .0 .0) (m .match2 .keys1))
+
+returns-3 : tie.Need-returns-3
+returns-3 c =
+    let t = c .before in
+    let u = t .before in
+    let m = u .before in
+    let d = m .before .before in
+    let w = d .before .before in
+    let a = w .before .before .before .args in
+    c .on-held .ensures ∙ sym
+    (task-read (a .bytes .now) (a .today) (a .premises .now) (a .count) _ (sym (w .read-record .ensures) ∙ d .reading .given .1)
+    ∙ kind-held (a .today) (take (a .count) (a .premises .now)) (a .count) (d .reading .given .0 .0) (m .match2 .rest .1)
+    (omega (arith, m .match2 .rest .1, u .if1 .left)) (omega (arith, t .if2 .taken)))
+
+returns-4 : tie.Need-returns-4
+returns-4 c =
+    let j = c .before in
+    let m = j .before in
+    let d = m .before .before in
+    let w = d .before .before in
+    let a = w .before .before .before .args in
+    c .on-mark .ensures ∙ sym
+    (task-read (a .bytes .now) (a .today) (a .premises .now) (a .count) _ (sym (w .read-record .ensures) ∙ d .reading .given .1)
+    ∙ kind-mark (a .today) (take (a .count) (a .premises .now)) (a .count) (d .reading .given .0 .0) (m .match2 .rest .1)
+    (⊎-elim (λ t. inl (omega (arith, t .taken))) (λ t. inr (omega (arith, t .1 .left))) (j .if1 .came)))
+
+pub task-of-spec : {M : Type 1} → statement M
+task-of-spec =
+    tie.close
+    (tie.spec
+    (λ c κs. search needs)
+    (λ c. search needs)
+    (λ c. search needs)
+    (λ c κs. search needs)
+    (λ c κs. search needs)
+    (λ c κs. search needs)
+    returns
+    returns-2
+    returns-3
+    returns-4)

@@ -1,0 +1,287 @@
+-- `play` meets its contract. The outer loop's invariant: the records before the one reached are played and noted, and the course of those
+-- that are left is the rest of the whole; its measure is the answers that can still be noted. The inner loop's: the files before the one
+-- reached are marked; its measure is the files left. Assumes nothing.
+use Prim.Native.Nat.{_-_, _<_}
+use mathlib.Core.Path.{refl}
+use mathlib.Core.Logic.{⊎-elim}
+use native.Mathlib.Omega.{arith}
+use lib.ListN.{length, take, drop}
+use Rattle.book.specs.Book.{mostFiles}
+use Rattle.book_calls.proofs.Marking.{Marking, mark-none}
+use Rattle.book_calls.proofs.MarkTurns.{mark-place, mark-tidy, mark-room, mark-more, mark-still}
+use Rattle.book_calls.proofs.Ways.{Standing, Made, made-as, each-place, task-asks, by-refusal, held-place, held-asks, by-file}
+use Rattle.book_calls.proofs.Ways.{day-asks, by-marks, open-asks, by-opening, close-place, close-asks, by-closing}
+use Rattle.book_calls.proofs.Playing.{Playing, playing-none, answers-length, counts-length, notices-length, sent-within, standing}
+use Rattle.book_calls.proofs.Playing.{sent-more, sent-few, playing-more, plays-most, plays-all, plays-room}
+use Rattle.book_calls.proofs.player.play.Statement.{statement}
+use Rattle.book_calls.proofs.player.play.Tie as tie
+
+abbrev Inv-loop2 : tie.InvT-loop2
+Inv-loop2 calendar tape answers counts notices₀ c₀ numbers played sent₀ from last to count standing day business end place₀ notices c sent
+    place =
+    Marking calendar day c₀ standing notices₀ place sent c notices
+
+abbrev μ-loop2 : tie.MeasureT-loop2
+μ-loop2 calendar tape answers counts notices₀ c₀ numbers played sent₀ from last to count standing day business end place₀ notices c sent
+    place =
+    count - place
+
+abbrev Inv-loop : tie.InvT-loop
+Inv-loop calendar tape answers₀ counts₀ notices₀ c₀ numbers₀ played₀ sent₀ from₀ last₀ answers counts notices c numbers played sent from
+    last =
+    Playing calendar tape c₀ answers₀ counts₀ notices₀ answers counts notices c numbers played sent from last
+
+abbrev μ-loop : tie.MeasureT-loop
+μ-loop calendar tape answers₀ counts₀ notices₀ c₀ numbers₀ played₀ sent₀ from₀ last₀ answers counts notices c numbers played sent from
+    last =
+    length answers₀ - played
+
+loop-holds : tie.Need-loop-holds Inv-loop2 μ-loop2 Inv-loop μ-loop
+loop-holds c =
+    let s = c .before .before .before .before .before .before in
+    let a = s .args in
+    playing-none (a .calendar .now) (a .tape .now) (a .b) (a .answers .now) (a .counts .now) (a .notices .now) _ (s .pre .0) (s .pre .1)
+    (c .premises .ensures)
+
+-- where the function began
+abbrev began : (l : tie.At-loop Inv-loop2 μ-loop2 Inv-loop μ-loop) → tie.Start Inv-loop2 μ-loop2 Inv-loop μ-loop
+began l = l .before .before .before .before .before .before .before
+
+-- a record is left and finds room
+stands : (e : tie.Else2 Inv-loop2 μ-loop2 Inv-loop μ-loop)
+    → Standing (e .before .before .before .loop .c) (e .before .before .before .loop .numbers) (e .before .before .before .loop .sent)
+    (e .before .before .before .loop .notices)
+stands e = let i = e .before .before in standing (i .before .loop .inv) (i .loop-test .taken) (e .before .if1 .left) (e .if2 .left)
+
+-- ---- the record's premise is held
+held-at : (d : tie.After-task2 Inv-loop2 μ-loop2 Inv-loop μ-loop) → d .task2 .given .0 .0 < mostFiles
+held-at d =
+    let k = d .before .before in
+    held-place (stands (k .before .before .before .before)) _ (k .task-of .ensures) (d .task2 .given .1)
+
+on-file-requires : tie.Need-on-file-requires Inv-loop2 μ-loop2 Inv-loop μ-loop
+on-file-requires c κs =
+    let d = c .before .before .before in
+    let k = d .before .before in
+    held-asks (stands (k .before .before .before .before)) _ (k .task-of .ensures) (d .task2 .given .1) _
+
+-- ---- it marks the next day
+loop2-holds : tie.Need-loop2-holds Inv-loop2 μ-loop2 Inv-loop μ-loop
+loop2-holds c =
+    let k = c .before .before .before .before .before in
+    mark-none _ _ _ _ _ (day-asks (stands (k .before .before .before .before)) _ _)
+
+-- the file at the place reached stands in the book
+marks-within : (i : tie.In-loop2 Inv-loop2 μ-loop2 Inv-loop μ-loop) → i .before .loop2 .place < mostFiles
+marks-within i = mark-place (i .before .loop2 .inv) (i .loop2-test .taken)
+
+mark-changes-file-requires : tie.Need-mark-changes-file-requires Inv-loop2 μ-loop2 Inv-loop μ-loop
+mark-changes-file-requires c κs = let i = c .before in mark-tidy (i .before .loop2 .inv) (i .loop2-test .taken)
+
+mark-requires : tie.Need-mark-requires Inv-loop2 μ-loop2 Inv-loop μ-loop
+mark-requires c κs =
+    let i = c .before .before .before .before in
+    let j = i .before in
+    record {
+      tidy = mark-tidy (j .loop2 .inv) (i .loop2-test .taken);
+      room = mark-room (j .loop2 .inv) (i .loop2-test .taken);
+      window = j .before .last-in-window .ensures;
+    }
+
+loop2-again : tie.Need-loop2-again Inv-loop2 μ-loop2 Inv-loop μ-loop
+loop2-again c =
+    let x = c .before .before .before in
+    let i = x .before .before .before .before .before in
+    mark-more (i .before .loop2 .inv) (i .loop2-test .taken) (x .mark .result) (x .mark .ensures)
+
+loop2-again-2 : tie.Need-loop2-again-2 Inv-loop2 μ-loop2 Inv-loop μ-loop
+loop2-again-2 c =
+    let u = c .before in
+    let i = u .before .before in
+    let n = i .before .before in
+    mark-still (i .before .loop2 .inv) (i .loop2-test .taken) _ (n .before .is-business-day .ensures) (n .last-in-window .ensures)
+    (u .mark-changes-file .ensures) (c .if3 .left)
+
+-- ---- it opens a place, or closes one
+insert-requires : tie.Need-insert-requires Inv-loop2 μ-loop2 Inv-loop μ-loop
+insert-requires c κs =
+    let d = c .before .before in
+    let k = d .before .before in
+    open-asks (stands (k .before .before .before .before)) _ (k .task-of .ensures) (d .task4 .given .1)
+
+close-at : (d : tie.After-task5 Inv-loop2 μ-loop2 Inv-loop μ-loop) → d .task5 .given .0 .0 < mostFiles
+close-at d =
+    let k = d .before .before in
+    close-place (stands (k .before .before .before .before)) _ (k .task-of .ensures) (d .task5 .given .1)
+
+retire-requires : tie.Need-retire-requires Inv-loop2 μ-loop2 Inv-loop μ-loop
+retire-requires c κs =
+    let d = c .before .before in
+    let k = d .before .before in
+    close-asks (stands (k .before .before .before .before)) _ (k .task-of .ensures) (d .task5 .given .1)
+
+-- ---- its call is made, by one of the five ways
+abbrev MadeAt : tie.At-match-came Inv-loop2 μ-loop2 Inv-loop μ-loop → Type 0
+MadeAt c =
+    let m = c .before .before .before .before in
+    let l = m .before .before .before .before in
+    let a = began l .args in
+    Made (a .calendar .now) (l .loop .c) (take (m .record-end .result - l .loop .from) (drop (l .loop .from) (a .tape .now))) (l .loop .sent)
+    (l .loop .notices)
+    (record {
+      answer = c .match .last;
+      sent = c .match .sent;
+      book = c .match .c;
+      numbers = c .match .numbers;
+      buffer = c .match .notices;
+    })
+
+made : (c : tie.At-match-came Inv-loop2 μ-loop2 Inv-loop μ-loop) → MadeAt c
+made c =
+    let k = c .before in
+    let v = stands (k .before .before .before .before) in
+    ⊎-elim
+    (λ x. made-as (λ i. record { answer = x .7 i; sent = x .6 i; book = x .4 i; numbers = x .5 i; buffer = x .3 i })
+    (by-refusal v _ (k .task-of .ensures) (x .1 .given .1)))
+    (⊎-elim
+    (λ x. made-as (λ i. record { answer = x .13 i; sent = x .12 i; book = x .10 i; numbers = x .11 i; buffer = x .9 i })
+    (by-file v _ (k .task-of .ensures) (x .1 .given .1) (x .5 .result) (x .5 .ensures)))
+    (⊎-elim
+    (λ x. made-as (λ i. record { answer = x .11 i; sent = x .10 i; book = x .8 i; numbers = x .9 i; buffer = x .7 i })
+    (by-marks v _ (k .task-of .ensures) (x .1 .given .1) (x .5 .inv) (x .6 .left)))
+    (⊎-elim
+    (λ x. made-as (λ i. record { answer = x .10 i; sent = x .9 i; book = x .7 i; numbers = x .8 i; buffer = x .6 i })
+    (by-opening v _ (k .task-of .ensures) (x .1 .given .1) (x .3 .ensures) (x .4 .ensures) (x .5 .ensures)))
+    (λ x. made-as (λ i. record { answer = x .11 i; sent = x .10 i; book = x .8 i; numbers = x .9 i; buffer = x .7 i })
+    (by-closing v _ (k .task-of .ensures) (x .1 .given .1) (x .4 .result) (x .4 .ensures) (x .6 .ensures))))))
+    (c .match .came)
+
+-- ---- it is noted
+sub-counts : tie.Need-sub-counts Inv-loop2 μ-loop2 Inv-loop μ-loop
+sub-counts c =
+    let x = c .before .before in
+    let m = x .before .before .before .before in
+    let e = m .before in
+    let i = e .before .before in
+    omega (
+      arith,
+      sent-more (i .before .loop .inv) (i .loop-test .taken) (e .before .if1 .left) (e .if2 .left) (m .record-end .result) (made x),
+    )
+
+cast-counts : tie.Need-cast-counts Inv-loop2 μ-loop2 Inv-loop μ-loop
+cast-counts c =
+    let x = c .before .before in
+    let m = x .before .before .before .before in
+    let e = m .before in
+    let i = e .before .before in
+    omega (
+      arith,
+      sent-few (i .before .loop .inv) (i .loop-test .taken) (e .before .if1 .left) (e .if2 .left) (m .record-end .result) (made x),
+    )
+
+-- where the record was reached
+abbrev reached : (c : tie.After-row-known Inv-loop2 μ-loop2 Inv-loop μ-loop) → tie.In-loop Inv-loop2 μ-loop2 Inv-loop μ-loop
+reached c = c .before .before .before .before .before .before .before .before .before
+
+loop-again : tie.Need-loop-again Inv-loop2 μ-loop2 Inv-loop μ-loop
+loop-again c =
+    let n = c .before in
+    let x = n .before in
+    let m = x .before .before .before .before in
+    let e = m .before in
+    let i = e .before .before in
+    playing-more (i .before .loop .inv) (i .loop-test .taken) (e .before .if1 .left) (e .if2 .left) (m .record-end .result) (made x)
+    (m .record-end .ensures) (n .number-of .ensures) refl
+
+pub play-spec : {M : Type 1} → statement M
+play-spec =
+    tie.close
+    (tie.spec
+    Inv-loop2
+    μ-loop2
+    Inv-loop
+    μ-loop
+    (λ c κs. tt)
+    loop-holds
+    (λ c. let l = c .before .before in omega (
+      arith,
+      sent-within (l .loop .inv),
+      notices-length (l .loop .inv),
+      began l .good .1 .1 .1 .1 .1 .0 .0,
+    ))
+    (λ c. sent-within (c .before .before .loop .inv))
+    (λ c κs. c .before .if1 .left)
+    (λ c. omega (arith, c .record-end .ensures, c .before .before .if1 .left))
+    (λ c. omega (arith, c .record-end .ensures, c .before .before .if1 .left))
+    (λ c. omega (arith, c .record-end .ensures, c .before .before .if1 .left))
+    (λ c. each-place (stands (c .before .before .before)))
+    (λ c κs. task-asks (stands (c .before .before .before)))
+    (λ c. c .match .keys1)
+    (λ c. c .match .keys2)
+    (λ c. omega (arith, held-at (c .before)))
+    (λ c. omega (arith, held-at (c .before)))
+    on-file-requires
+    (λ c. omega (arith, held-at (c .before .before .before .before .before .before .before)))
+    (λ c. omega (arith, held-at (c .before .before .before .before .before .before .before)))
+    (λ c. c .match .keys3)
+    (λ c κs. tt)
+    (λ c κs. tt)
+    loop2-holds
+    (λ c. omega (arith, marks-within c))
+    (λ c. omega (arith, marks-within c))
+    (λ c. omega (arith, marks-within (c .before)))
+    mark-changes-file-requires
+    mark-requires
+    (λ c. omega (arith, marks-within (c .before .before .before .before .before .before .before .before)))
+    (λ c. omega (arith, marks-within (c .before .before .before .before .before .before .before .before)))
+    (λ c. omega (arith, c .before .before .before .before .before .before .before .before .loop2-test .taken))
+    loop2-again
+    (λ c. omega (arith, c .before .before .before .loop2-test .taken))
+    loop2-again-2
+    (λ c. c .match .keys4)
+    (λ c κs. tt)
+    insert-requires
+    (λ c κs. tt)
+    (λ c. c .match .keys5)
+    (λ c. omega (arith, close-at (c .before)))
+    (λ c. omega (arith, close-at (c .before)))
+    retire-requires
+    (λ c κs. tt)
+    (λ c κs. tt)
+    (λ c. c .before .before .before .before .before .before .before .before .loop-test .taken)
+    sub-counts
+    cast-counts
+    (λ c. let l = reached c .before in omega (
+      arith,
+      reached c .loop-test .taken,
+      answers-length (l .loop .inv),
+      l .loop .inv .fit,
+      began l .good .1 .1 .1 .1 .0 .1,
+    ))
+    (λ c. let l = reached c .before in omega (
+      arith,
+      reached c .loop-test .taken,
+      answers-length (l .loop .inv),
+      counts-length (l .loop .inv),
+      l .loop .inv .fit,
+    ))
+    (λ c. let l = reached c .before in omega (
+      arith,
+      reached c .loop-test .taken,
+      answers-length (l .loop .inv),
+      began l .good .1 .1 .1 .0 .0,
+    ))
+    (λ c. omega (arith, reached c .loop-test .taken, answers-length (reached c .before .loop .inv)))
+    loop-again
+    (λ c. answers-length (c .before .loop .inv))
+    (λ c. counts-length (c .before .loop .inv))
+    (λ c. notices-length (c .before .loop .inv))
+    (λ c. plays-most (c .before .loop .inv) (c .loop-test .left))
+    (λ c. answers-length (c .before .before .loop .inv))
+    (λ c. counts-length (c .before .before .loop .inv))
+    (λ c. notices-length (c .before .before .loop .inv))
+    (λ c. plays-all (c .before .before .loop .inv) (c .if1 .taken))
+    (λ c. answers-length (c .before .before .before .loop .inv))
+    (λ c. counts-length (c .before .before .before .loop .inv))
+    (λ c. notices-length (c .before .before .before .loop .inv))
+    (λ c. plays-room (c .before .before .before .loop .inv) (c .if2 .taken)))

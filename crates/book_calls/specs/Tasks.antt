@@ -1,0 +1,90 @@
+-- What is to be done with a record, by its bytes, T and the premise numbers of a book's places, and what is known then.
+use Prim.Native.Nat.{ℕ, _+_, _≤_, _<_}
+use mathlib.Core.Path.{_≡_}
+use mathlib.Core.List.{List}
+use mathlib.Core.Bool.{cond}
+use lib.Dec.{eqb}
+use lib.ListN.{take, getD}
+use Rattle.records.specs.declared.Record.{Record}
+use Rattle.records.specs.declared.Reading.{Reading}
+use Rattle.records.specs.declared.Reading.the-variants.{Malformed, Says}
+use Rattle.records.specs.Records.{reading, kindCreate, kindRetire}
+use Rattle.premise.specs.declared.File.{File}
+use Rattle.premise.specs.declared.Answer.{Answer}
+use Rattle.premise.specs.declared.Answer.the-variants.{MalformedRecord, NoSuchPremise, PremiseHeld, BookFull, NotNextDay}
+use Rattle.premise.specs.Steps.{is}
+use Rattle.premise.specs.Refusals.{needsPremise}
+use Rattle.book.specs.declared.Book.{Book}
+use Rattle.book.specs.Book.{mostFiles}
+use Rattle.book.specs.Calls.{refusal, markedBook}
+use Rattle.book.specs.CallsInRow.{called}
+use Rattle.book.specs.Laws.{OnHeld}
+use Rattle.book_files.specs.declared.premise_numbers.Place.{Place}
+use Rattle.book_files.specs.declared.premise_numbers.Place.the-variants.{Held, Free}
+use Rattle.book_files.specs.Numbers.{placeOfPremise}
+use Rattle.book_calls.specs.declared.dispatch.Task.{Task}
+use Rattle.book_calls.specs.declared.dispatch.Task.the-variants.{Refused, Opens, Closes, OnFile, NextDay}
+use Rattle.book_calls.specs.FileSteps.{opening, closing}
+
+-- ---- what is to be done
+-- a create: rows 5 and 6
+abbrev pub onNew : Record → ℕ → Place → Task
+onNew r count (Held at) = Refused PremiseHeld
+onNew r count (Free at) = cond (eqb count mostFiles) (Refused BookFull) (Opens at r)
+
+-- kinds 2 to 9: row 4; a retire takes the file out of the book, any other leaves it there
+abbrev pub onHeld : Record → Place → Task
+onHeld r (Held at) = cond (is kindRetire r) (Closes at) (OnFile at r)
+onHeld r (Free at) = Refused NoSuchPremise
+
+-- a day mark: row 15
+abbrev pub onMark : ℕ → ℕ → Task
+onMark today day = cond (eqb day (today + 1)) (NextDay day) (Refused NotNextDay)
+
+-- by the kind
+abbrev pub taskFor : ℕ → List ℕ → ℕ → Record → Task
+taskFor today numbers count r =
+    cond (is kindCreate r) (onNew r count (placeOfPremise (r .premise) numbers))
+    (cond (needsPremise r) (onHeld r (placeOfPremise (r .premise) numbers)) (onMark today (r .day)))
+
+-- row 3
+abbrev pub taskIn : ℕ → List ℕ → ℕ → Reading → Task
+taskIn today numbers count Malformed = Refused MalformedRecord
+taskIn today numbers count (Says r) = taskFor today numbers count r
+
+-- the bytes of a record, T, and the first `count` of some premise numbers
+unfoldable pub taskOf : List ℕ → ℕ → List ℕ → ℕ → Task
+taskOf bytes today premises count = taskIn today (take count premises) count (reading bytes)
+
+-- ---- what is known then of a record on a book, by the premise numbers of its places
+-- it is refused
+pub record KnownRefused (bytes : List ℕ) (b : Book) (answer : Answer) : Type 0 where
+  pub result : (calendar : List ℕ) → called calendar b bytes ≡ refusal answer b
+
+-- it opens a place, and one is free
+pub record KnownOpens (bytes : List ℕ) (b : Book) (at : ℕ) (r : Record) : Type 0 where
+  pub within : at ≤ b .count
+  pub free : b .count < mostFiles
+  pub result : (calendar : List ℕ) → called calendar b bytes ≡ opening b at r
+
+-- it closes a place, unless an order is open
+pub record KnownCloses (bytes : List ℕ) (b : Book) (past : File) (at : ℕ) : Type 0 where
+  pub within : at < b .count
+  pub result : (calendar : List ℕ) → called calendar b bytes ≡ closing b at (getD (b .files) at past)
+
+-- its premise is held at a place
+pub record KnownHeld (bytes : List ℕ) (b : Book) (past : File) (at : ℕ) (r : Record) : Type 0 where
+  pub says : reading bytes ≡ Says r
+  pub held : OnHeld b at past r
+
+-- it marks the next day: every file of the book is marked
+pub record KnownMark (bytes : List ℕ) (b : Book) (day : ℕ) : Type 0 where
+  pub result : (calendar : List ℕ) → called calendar b bytes ≡ markedBook calendar b day
+
+-- `past` is what a read past the last place would give, of which none comes
+abbrev pub Known : List ℕ → Book → File → Task → Type 0
+Known bytes b past (Refused answer) = KnownRefused bytes b answer
+Known bytes b past (Opens at r) = KnownOpens bytes b at r
+Known bytes b past (Closes at) = KnownCloses bytes b past at
+Known bytes b past (OnFile at r) = KnownHeld bytes b past at r
+Known bytes b past (NextDay day) = KnownMark bytes b day

@@ -1,0 +1,113 @@
+// The records of a stretch of tape, played on a book that stays in its place.
+ghost use mathlib.Core.Path.{_≡_};
+ghost use Prim.Native.Nat.{_+_, _≤_, _<_, min};
+ghost use lib.ListN.{length};
+ghost use Rattle.records.specs.Layout.{recordLength};
+ghost use Rattle.book.specs.Laws.{BookKept};
+ghost use Rattle.book.specs.CallsInRow.{recordsOf, callsInRow, Plays};
+use crate::dispatch::Task;
+use book::Book;
+use book::Playback;
+use premise::Answer;
+
+// Where a record ends that starts before a tape's end: the last may be short.
+fn record_end(from: usize, length: usize) -> usize
+    requires { ⌜ from < length ⌝ }
+    ensures { λ r. ⌜ r ≡ min (from + recordLength) length ⌝ }
+{
+    if length - from < records::RECORD_LENGTH {
+        return length;
+    }
+    from + records::RECORD_LENGTH
+}
+
+// Plays the records of a stretch of tape, one call each: as many as there are answers to note, and as long as any record's notices surely
+// find room. A refusal leaves the book; a record on a premise that is held stores one file, a mark the files that it changes; only a create
+// and a retire, which are rare, move files.
+pub fn play(
+    calendar: &[u8],
+    b: Book,
+    tape: &[u8],
+    answers: &mut [u8],
+    counts: &mut [u16],
+    notices: &mut [u8],
+) -> Playback
+    requires { ⌜ BookKept b ⌝ }
+    requires { ⌜ length (now answers) ≤ length (now counts) ⌝ }
+    ensures { λ r. ⌜ Plays (callsInRow (now (calendar .entry)) (length (now (notices .entry))) b
+        (recordsOf (length (now (answers .entry))) (now (tape .entry)))) r (now (answers .entry)) (now (answers .exit))
+        (now (counts .entry)) (now (counts .exit)) (now (notices .entry)) (now (notices .exit)) ⌝ }
+{
+    let mut c = b;
+    let mut numbers = book_files::premises(c);
+    let mut played: usize = 0;
+    let mut sent: usize = 0;
+    let mut from: usize = 0;
+    let mut last = Answer::Accepted;
+    while played < answers.len() {
+        if tape.len() <= from {
+            break;
+        }
+        if notices.len() - records::RECORD_LENGTH * sent < book::NOTICE_BYTES {
+            break;
+        }
+        let to = record_end(from, tape.len());
+        let bytes = &tape[from..to];
+        let count = c.count;
+        let standing = sent;
+        let task = crate::dispatch::task_of(bytes, c.today, &numbers, count);
+        last = Answer::Accepted;
+        match task {
+            Task::Refused(row) => {
+                last = row;
+            }
+            Task::OnFile(at, r) => {
+                let f = c.files[at];
+                let p = crate::files::on_file(calendar, c.today, f, r, standing, notices);
+                let g = p.file;
+                c.files[at] = g;
+                last = p.answer;
+                sent = p.sent;
+            }
+            Task::NextDay(day) => {
+                let business = days::is_business_day(calendar, day);
+                let end = days::last_in_window(calendar, days::WINDOW_WIDTH, day);
+                c.today = day;
+                let mut place: usize = 0;
+                while place < count {
+                    let f = c.files[place];
+                    let at = place;
+                    place += 1;
+                    if premise_steps::mark_changes_file(business, day, end, f) {
+                        let m = premise_steps::mark(calendar, day, end, f, sent, notices);
+                        let g = m.file;
+                        c.files[at] = g;
+                        sent = m.sent;
+                    }
+                }
+            }
+            Task::Opens(at, r) => {
+                let f = premise_file::new_file(r);
+                c = book_files::insert(c, at, f);
+                numbers = book_files::premises(c);
+            }
+            Task::Closes(at) => {
+                let f = c.files[at];
+                let q = crate::files::retire(c, at, f);
+                last = q.answer;
+                c = q.book;
+                numbers = book_files::premises(c);
+            }
+        }
+        answers[played] = premise_rows::number_of(last);
+        counts[played] = (sent - standing) as u16;
+        played += 1;
+        from = to;
+    }
+    Playback {
+        played: played,
+        sent: sent,
+        last: last,
+        book: c,
+    }
+}

@@ -1,4 +1,0 @@
-pub mod InPlace
-pub mod Known
-pub mod Ready
-pub mod Stays

@@ -1,3 +1,0 @@
-pub mod LookUp
-pub mod Held
-pub mod InPlace

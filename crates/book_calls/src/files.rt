@@ -36,7 +36,8 @@ pub fn on_file(
     buffer: &mut [u8],
 ) -> FileReply
     requires { ⌜ OnFile kindNewOrder (now calendar) today file r standing (now buffer) ⌝ }
-    ensures { λ p. ⌜ FileGiven (givenOn (now (calendar .entry)) today (some file) r) standing p (now (buffer .entry)) (now (buffer .exit)) ⌝ }
+    ensures { λ p. ⌜ FileGiven (givenOn (now (calendar .entry)) today (some file) r)
+        standing p (now (buffer .entry)) (now (buffer .exit)) ⌝ }
 {
     let slot = FileOrNone {
         held: true,

@@ -1,6 +1,7 @@
 pub mod Alone
 pub mod ByDefinition
 pub mod Callers
+pub mod CallsInRow
 pub mod Demand1
 pub mod Demand2
 pub mod Demand3

@@ -1,4 +1,5 @@
 pub mod Callers
+pub mod CallsInRow
 pub mod Demand1
 pub mod Demand2
 pub mod Demand3

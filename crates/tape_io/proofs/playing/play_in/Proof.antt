@@ -19,7 +19,7 @@ loop-holds : tie.Need-loop-holds Inv-loop μ-loop
 loop-holds c =
     let s = c .before .before .before .before .before .before .before in
     let a = s .args in
-    let lent = record { answers = a .answers .now; counts = a .counts .now; notices = a .notices .now; out = a .out .now } in
+    let lent : Buffers = record { answers = a .answers .now; counts = a .counts .now; notices = a .notices .now; out = a .out .now } in
     between-first (a .tape .now) lent _ (c .start .ensures) (s .pre .1 .0) (s .pre .1 .1)
 
 -- ---- a stretch is played

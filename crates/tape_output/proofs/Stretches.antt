@@ -14,9 +14,10 @@ use Rattle.book.proofs.CallsInRow.{records-few, row-left, row-played}
 use Rattle.tape_reader.specs.Counts.{mostRecords}
 use Rattle.tape_output.specs.declared.Playing.{Playing}
 use Rattle.tape_output.specs.Output.{ending, printed, starting, calendarMost, tapeMost}
-use Rattle.tape_output.specs.Stretches.{recordTextMost, endingMost, stretchRecords, stretchNotices, stretchTextMost, atOnce}
+use Rattle.tape_output.specs.Stretches.{recordTextMost, endingMost, stretchRecords, stretchNotices, stretchTextMost, oneOrNone}
 use Rattle.tape_output.specs.Stretches.{afterCalls, resultsText, Stretched, nothingMore, ended, behind, closing, textThen, stretch}
-use Rattle.tape_output.specs.Stretches.{left, Ready, pieces, joined, PiecesAreOutput, GoesOn, StretchGoesOn, StretchMoves, StretchFits}
+use Rattle.tape_output.specs.Stretches.{left, Ready, pieces, joined, PiecesAreOutput, GoesOn, StretchGoesOn, StretchMoves}
+use Rattle.tape_output.specs.Stretches.{StretchFits, atOnce}
 use Rattle.tape_output.proofs.Courses.{course-moves, course-text-each, course-text-fits, course-prints}
 use Rattle.tape_output.proofs.Left.{left-few}
 use Rattle.tape_output.proofs.Lines.{ending-most}
@@ -42,12 +43,13 @@ after calendar s = cond (s .done) [] (printed calendar (s .playing) (s .left))
 -- ---- how many records it plays
 at-once-some : (room : ℕ) → recordTextMost ≤ room → 0 < atOnce room
 at-once-some room h =
-    by-test (λ n. 0 < n) (leb stretchTextMost room) stretchRecords (cond (leb recordTextMost room) 1 0) (λ e. omega arith)
-    (λ e. by-test (λ n. 0 < n) (leb recordTextMost room) 1 0 (λ t. omega arith) (λ t. absurd (omega (arith, leb-false recordTextMost room t))))
+    by-test (λ n. 0 < n) (leb stretchTextMost room) stretchRecords (oneOrNone room) (λ e. omega arith)
+    (λ e. by-test (λ n. 0 < n) (leb recordTextMost room) _ _ (λ t. omega arith)
+    (λ t. absurd (omega (arith, leb-false recordTextMost room t))))
 
 pub at-once-many : (room : ℕ) → stretchTextMost ≤ room → atOnce room ≡ stretchRecords
 at-once-many room h =
-    ap (λ (t : Bool). cond t stretchRecords (cond (leb recordTextMost room) 1 0)) (le-leb stretchTextMost room h)
+    ap (λ (t : Bool). cond t stretchRecords (oneOrNone room)) (le-leb stretchTextMost room h)
 
 module _ (calendar : List ℕ) (room : ℕ) (p : Playing) (records : List (List ℕ)) where
   abbrev course : Course
@@ -74,26 +76,35 @@ module _ (calendar : List ℕ) (room : ℕ) (p : Playing) (records : List (List 
       let all = course-prints calendar stretchNotices (p .book) (take (atOnce room) records) (p .reader) others
       ∙ ap (printed calendar p) parts in
       by-closing
-      (λ ls s. text ++ printed calendar on ls ≡ printed calendar p records → text ++ s .text ++ after calendar s ≡ printed calendar p records)
+      (λ ls s. text ++ printed calendar on ls ≡ printed calendar p records
+      → text ++ s .text ++ after calendar s ≡ printed calendar p records)
       (room - length text) on (course .left ++ others)
       (λ h. append-nil (text ++ ending on) ∙ h)
       (λ h. ap (λ (l : List ℕ). l ++ printed calendar on (course .left ++ others)) (append-nil text) ∙ h) all
 
   text-fits : p .reader .place + length records ≤ mostRecords → length text ≤ room
   text-fits within =
-      by-test Fits (leb stretchTextMost room) stretchRecords (cond (leb recordTextMost room) 1 0)
-      (λ e. let w = within-part stretchRecords in
-      let few : length (take stretchRecords records) ≤ stretchRecords = omega (arith, length-take stretchRecords records) in
-      omega (arith, course-text-fits calendar (p .book) (take stretchRecords records) (p .reader .place) w few, leb-true stretchTextMost room e))
-      (λ e. by-test Fits (leb recordTextMost room) 1 0 (λ t. omega (arith, each 1, leb-true recordTextMost room t)) (λ t. omega (arith, each 0)))
+      by-test (λ n. length (textOf n) ≤ room) (leb stretchTextMost room) stretchRecords (oneOrNone room)
+      (λ e. omega (arith, many, leb-true stretchTextMost room e))
+      (λ e. omega (arith, each (oneOrNone room), one))
     where
-      Fits : ℕ → Type 0
-      Fits n = length (resultsText (p .reader .place) (callsInRow calendar stretchNotices (p .book) (take n records) .results)) ≤ room
+      textOf : ℕ → List ℕ
+      textOf n = resultsText (p .reader .place) (callsInRow calendar stretchNotices (p .book) (take n records) .results)
 
       within-part : (n : ℕ) → p .reader .place + length (take n records) ≤ mostRecords
       within-part n = omega (arith, within, length-take n records)
 
-      each : (n : ℕ) → length (resultsText (p .reader .place) (callsInRow calendar stretchNotices (p .book) (take n records) .results)) ≤ recordTextMost * n
+      one : recordTextMost * oneOrNone room ≤ room
+      one =
+          by-test (λ n. recordTextMost * n ≤ room) (leb recordTextMost room) _ _ (λ t. omega (arith, leb-true recordTextMost room t))
+          (λ t. omega arith)
+
+      many : length (textOf stretchRecords) + endingMost ≤ stretchTextMost
+      many =
+          course-text-fits calendar (p .book) (take stretchRecords records) (p .reader .place) (within-part stretchRecords)
+          (omega (arith, length-take stretchRecords records))
+
+      each : (n : ℕ) → length (textOf n) ≤ recordTextMost * n
       each n =
           omega (
             arith,

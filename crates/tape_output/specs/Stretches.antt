@@ -38,8 +38,11 @@ stretchTextMost = recordLineMost * stretchRecords + noticeLineMost * (2 * mostNo
 
 -- how many records are played at once, by the room for text: so many where there is room for their text and the end, else one where
 -- there is room for its text
+abbrev pub oneOrNone : ℕ → ℕ
+oneOrNone room = cond (leb recordTextMost room) 1 0
+
 abbrev pub atOnce : ℕ → ℕ
-atOnce room = cond (leb stretchTextMost room) stretchRecords (cond (leb recordTextMost room) 1 0)
+atOnce room = cond (leb stretchTextMost room) stretchRecords (oneOrNone room)
 
 -- ---- calls in a row, and their text
 -- a reader after records with these answers

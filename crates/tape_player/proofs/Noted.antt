@@ -43,8 +43,8 @@ noted-results place (x ∷ xs) rest =
     ∙ append-assoc (encodeAll (x .notices)) (encodeAll (noticesOf xs)) rest in
     let answer = number (x .answer) in
     let n = length (x .notices) in
-    ap (λ (l : List ℕ). notedText (place + 1) answer n l ++ notedTexts (place + 1) (answersOf xs) (countsOf xs) (drop (recordLength * n) l)) bytes
-    ∙ ap₂ (λ (ls : List (List ℕ)) (l : List ℕ).
-    recordLine (place + 1) answer n ++ rowLines ls ++ notedTexts (place + 1) (answersOf xs) (countsOf xs) l)
+    let others = notedTexts (place + 1) (answersOf xs) (countsOf xs) in
+    ap (λ (l : List ℕ). notedText (place + 1) answer n l ++ others (drop (recordLength * n) l)) bytes
+    ∙ ap₂ (λ (ls : List (List ℕ)) (l : List ℕ). recordLine (place + 1) answer n ++ rowLines ls ++ others l)
     (front (x .notices) later) (behind (x .notices) later)
     ∙ ap (λ (l : List ℕ). resultText (place + 1) x ++ l) (noted-results (place + 1) xs rest)

@@ -15,14 +15,14 @@ use Rattle.book.specs.Calls.{Result}
 use Rattle.book.specs.Laws.{BookKept}
 use Rattle.book.specs.CallsInRow.{recordsOf, Course, callsInRow, answersOf, countsOf, noticesOf, Plays as PlaysInRow}
 use Rattle.book.proofs.Kept.{book-kept-means}
-use Rattle.book.proofs.CallsInRow.{row-few, row-played}
+use Rattle.book.proofs.CallsInRow.{row-played}
 use Rattle.tape_text.specs.Numbers.{Puts}
 use Rattle.tape_text.proofs.Puts.{puts-as, puts-length, puts-then}
 use Rattle.tape_reader.specs.Counts.{mostRecords}
 use Rattle.tape_output.specs.declared.Playing.{Playing}
 use Rattle.tape_output.specs.declared.Stretch.{Stretch}
 use Rattle.tape_output.specs.Output.{tapeMost}
-use Rattle.tape_output.specs.Stretches.{endingMost, stretchRecords, stretchNotices, stretchTextMost, countedAll, afterCalls, resultsText}
+use Rattle.tape_output.specs.Stretches.{endingMost, stretchRecords, stretchNotices, countedAll, afterCalls, resultsText}
 use Rattle.tape_output.specs.Stretches.{Stretched, behind, closing, textThen, stretch, left, Ready, Roomy, Plays}
 use Rattle.tape_output.proofs.Courses.{course-text-fits}
 use Rattle.tape_output.proofs.Left.{left-first}
@@ -60,6 +60,12 @@ module _ (calendar tape : List ℕ) (p : Playing) (answers counts notices out : 
   abbrev text : List ℕ
   text = resultsText (p .reader .place) results
 
+  answers-many : length (answersOf results) ≡ length results
+  answers-many = length-map results (λ (x : Result). number (x .answer))
+
+  counts-many : length (countsOf results) ≡ length results
+  counts-many = length-map results (λ (x : Result). length (x .notices))
+
   pub play-asks : BookKept (p .book) × (length answers ≤ length counts)
   play-asks = (book-kept-means (p .book) .0 (asked .0 .kept), omega (arith, roomy .answers, roomy .counts))
 
@@ -93,20 +99,16 @@ module _ (calendar tape : List ℕ) (p : Playing) (answers counts notices out : 
         (ap₂ recordsOf (roomy .answers) lent-is ∙ sym (left-first p tape stretchRecords (asked .1)))
 
     module _ (r : Playback) (answers′ counts′ notices′ : List ℕ)
-        (given : PlaysInRow (callsInRow calendar (length notices) (p .book) (recordsOf (length answers) lent)) r answers answers′ counts counts′
-        notices notices′) where
+        (given : PlaysInRow (callsInRow calendar (length notices) (p .book) (recordsOf (length answers) lent)) r
+        answers answers′ counts counts′ notices notices′) where
       plays : PlaysInRow course r answers answers′ counts counts′ notices notices′
       plays = subst (λ (c : Course). PlaysInRow c r answers answers′ counts counts′ notices notices′) course-is given
 
       answers-are : take (r .played) answers′ ≡ answersOf results
-      answers-are =
-          ap₂ take (plays .played) (plays .answers)
-          ∙ take-at (answersOf results) _ (length results) (length-map results (λ (x : Result). number (x .answer)))
+      answers-are = ap₂ take (plays .played) (plays .answers) ∙ take-at (answersOf results) _ (length results) answers-many
 
       counts-are : take (r .played) counts′ ≡ countsOf results
-      counts-are =
-          ap₂ take (plays .played) (plays .counts)
-          ∙ take-at (countsOf results) _ (length results) (length-map results (λ (x : Result). length (x .notices)))
+      counts-are = ap₂ take (plays .played) (plays .counts) ∙ take-at (countsOf results) _ (length results) counts-many
 
       abbrev noted : List ℕ
       noted = notedTexts (p .reader .place) (take (r .played) answers′) (take (r .played) counts′) notices′
@@ -122,8 +124,8 @@ module _ (calendar tape : List ℕ) (p : Playing) (answers counts notices out : 
           record {
             sound = asked .0 .sound;
             within = omega (arith, plays .played, row-played calendar stretchNotices (p .book) firsts, within);
-            answers = omega (arith, ap length answers-are, length-take (r .played) answers′, length-map results (λ (x : Result). number (x .answer)), plays .played);
-            counts = omega (arith, ap length counts-are, length-take (r .played) counts′, length-map results (λ (x : Result). length (x .notices)), plays .played);
+            answers = omega (arith, ap length answers-are, length-take (r .played) answers′, answers-many, plays .played);
+            counts = omega (arith, ap length counts-are, length-take (r .played) counts′, counts-many, plays .played);
             notices = omega (
               arith,
               ap sum counts-are,
@@ -174,6 +176,7 @@ module _ (calendar tape : List ℕ) (p : Playing) (answers counts notices out : 
         stretch-plays {s} {last} closes =
             let close = closing (length middle - told .stop) on (left on tape) in
             let most = closing-fits (length middle - told .stop) on (left on tape) on-ready in
-            let room : 0 + length (text ++ close .text) ≤ length out = omega (arith, length-append text (close .text), put .end, middle-length, most, fits) in
+            let room : 0 + length (text ++ close .text) ≤ length out =
+            omega (arith, length-append text (close .text), put .end, middle-length, most, fits) in
             subst⁻¹ (λ (x : Stretched). Plays 0 x s out last) stretch-is
             (record { playing = closes .playing; text = puts-then put (closes .text) room; done = closes .done })

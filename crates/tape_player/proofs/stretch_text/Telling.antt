@@ -14,7 +14,8 @@ use Rattle.tape_output.specs.Output.{rowLines}
 use Rattle.tape_player.specs.Noted.{notedText}
 
 module _ (reader : Reader) (answer n : ℕ) (notices : List ℕ) (start : ℕ) (out : List ℕ)
-    (room : start + length (notedText (reader .place + 1) answer n notices) ≤ length out) {next : Reader} (on : next ≡ counted reader answer)
+    (room : start + length (notedText (reader .place + 1) answer n notices) ≤ length out)
+    {next : Reader} (on : next ≡ counted reader answer)
   where
     abbrev line : List ℕ
     line = recordLine (next .place) answer n

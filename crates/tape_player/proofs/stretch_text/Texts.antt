@@ -1,14 +1,13 @@
 -- The loop that puts the texts of records in a row: after i turns those of the first i are put. Assumes nothing.
 use Prim.Native.Nat.{ℕ, _+_, _*_, _-_, _≤_, _<_}
 use mathlib.Core.Path.{_≡_, refl, sym, ap, ap₂, subst⁻¹, _∙_}
-use mathlib.Core.List.{List, [], _∷_, _++_}
+use mathlib.Core.List.{List, _∷_, _++_}
 use native.Mathlib.Omega.{arith}
 use lib.ListN.{length, take, drop, getD, length-drop}
 use lib.Seq.{drop-drop, take-all}
 use Rattle.lists.proofs.Find.{drop-part, part-none}
 use Rattle.records.specs.Layout.{recordLength}
 use Rattle.tape_text.specs.Numbers.{Puts}
-use Rattle.tape_text.proofs.Puts.{puts-as, room-as}
 use Rattle.tape_text.proofs.Putting.{Putting, putting-none, putting-length, putting-room, putting-more, putting-all}
 use Rattle.tape_reader.specs.declared.Reader.{Reader}
 use Rattle.tape_reader.specs.Counts.{mostRecords, counted, Sound, Within}
@@ -91,7 +90,8 @@ module _ (reader : Reader) (played : ℕ) (answers counts notices before : List 
           ++ notedTexts (counted next answer .place) (answersFrom (i + 1)) (countsFrom (i + 1)) (drop (from + recordLength * n) notices)
       texts-next =
           ap₂ (λ (as′ ns : List ℕ). notedTexts (next .place) as′ ns (drop from notices)) answers-next counts-next
-          ∙ ap₂ (λ (l m : List ℕ). notedText (next .place + 1) answer n l ++ notedTexts (next .place + 1) (answersFrom (i + 1)) (countsFrom (i + 1)) m)
+          ∙ ap₂ (λ (l m : List ℕ). notedText (next .place + 1) answer n l
+          ++ notedTexts (next .place + 1) (answersFrom (i + 1)) (countsFrom (i + 1)) m)
           (sym lent-is) (drop-drop (recordLength * n) from notices)
           ∙ ap (λ (place : ℕ). notedText (next .place + 1) answer n lent
           ++ notedTexts place (answersFrom (i + 1)) (countsFrom (i + 1)) (drop (from + recordLength * n) notices))

@@ -1,9 +1,9 @@
 -- `play` meets its contract: calendar and tape are cut, and its own buffers have the lengths that are asked. Assumes nothing.
 use Prim.Native.Nat.{ℕ, _≤_}
-use mathlib.Core.Path.{_≡_, sym}
+use mathlib.Core.Path.{_≡_}
 use borrow.Author.Needs.{needs}
 use native.Mathlib.Omega.{arith}
-use lib.ListN.{length, replicate, length-replicate, length-take}
+use lib.ListN.{length, replicate, length-replicate}
 use Rattle.tape_io.proofs.playing.play.Statement.{statement}
 use Rattle.tape_io.proofs.playing.play.Tie as tie
 

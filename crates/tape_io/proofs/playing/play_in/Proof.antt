@@ -1,7 +1,6 @@
 -- `play_in` meets its contract. The loop's invariant: the tape can be played on, in buffers of the same lengths. The measure is
 -- the records left. Assumes nothing.
 use Prim.Native.Nat.{_-_}
-use mathlib.Core.Path.{_∙_}
 use borrow.Author.Needs.{needs}
 use Rattle.tape_reader.specs.Counts.{mostRecords}
 use Rattle.tape_io.proofs.playing.Stretches.{Buffers, SameLengths, Between, between-first, text-stands, between-next, fewer-left}
@@ -20,8 +19,8 @@ loop-holds : tie.Need-loop-holds Inv-loop μ-loop
 loop-holds c =
     let s = c .before .before .before .before .before .before .before in
     let a = s .args in
-    between-first (a .tape .now) (record { answers = a .answers .now; counts = a .counts .now; notices = a .notices .now; out = a .out .now }) _
-    (c .start .ensures) (s .pre .1 .0) (s .pre .1 .1)
+    let lent : Buffers = record { answers = a .answers .now; counts = a .counts .now; notices = a .notices .now; out = a .out .now } in
+    between-first (a .tape .now) lent _ (c .start .ensures) (s .pre .1 .0) (s .pre .1 .1)
 
 -- ---- a stretch is played
 abbrev Stretched : Type 0

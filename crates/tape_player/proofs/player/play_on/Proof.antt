@@ -1,5 +1,4 @@
 -- `play_on` meets its contract: the records of the stretch are played, their text is put, and it closes. Assumes nothing.
-use native.Mathlib.Omega.{arith}
 use borrow.Author.Needs.{needs}
 use Rattle.tape_player.proofs.Played.{play-asks, printable, close-asks, stretch-plays}
 use Rattle.tape_player.proofs.player.play_on.Statement.{statement}
@@ -35,7 +34,9 @@ close-requires c κs =
     _ (l .least .ensures) (y .play .result) _ _ _ (y .play .ensures) (t .put-stretch .result) _ (t .put-stretch .ensures)
 
 same-length : tie.Need-same-length
-same-length c = c .before .before .before .before .before .before .before .before .before .before .before .before .before .before .before .before .before .before .before .play .kept .1 .1 .1 .0
+same-length c =
+    let t = c .before .before .before .before .before .before .before .before in
+    t .before .before .before .before .before .before .before .before .before .before .before .play .kept .1 .1 .1 .0
 
 returns : tie.Need-returns
 returns c =

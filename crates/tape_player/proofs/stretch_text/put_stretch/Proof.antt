@@ -1,8 +1,9 @@
 -- `put_stretch` meets its contract. The loop's invariant: the texts of the first i records are put. The measure is the records
 -- left. Assumes nothing.
-use Prim.Native.Nat.{_-_}
+use Prim.Native.Nat.{_+_, _*_, _-_, _≤_}
 use native.Mathlib.Omega.{arith}
-use borrow.Author.Needs.{needs}
+use lib.ListN.{length, getD}
+use Rattle.records.specs.Layout.{recordLength}
 use Rattle.tape_player.proofs.stretch_text.Texts.{Texts, texts-none, texts-length, texts-all, texts-held, texts-asks, texts-more}
 use Rattle.tape_player.proofs.stretch_text.put_stretch.Statement.{statement}
 use Rattle.tape_player.proofs.stretch_text.put_stretch.Tie as tie
@@ -26,20 +27,20 @@ mul-n c = omega (arith, c .before .loop .inv .asked .counts, c .loop-test .taken
 shared-slice-read-n : tie.Need-shared-slice-read-n Inv-loop μ-loop
 shared-slice-read-n c = omega (arith, c .before .before .loop .inv .asked .counts, c .before .loop-test .taken)
 
+-- the notices of the record stand in their buffer
+abbrev entry : tie.In-loop Inv-loop μ-loop → tie.Start Inv-loop μ-loop
+entry w = w .before .before .before .before .before .before
+
+held : (w : tie.In-loop Inv-loop μ-loop)
+    → w .before .loop .from + recordLength * getD (entry w .args .counts .now) (w .before .loop .i) 0
+    ≤ length (entry w .args .notices .now)
+held w = texts-held _ _ _ _ _ _ (w .before .loop .inv) (w .loop-test .taken)
+
 cast-n : tie.Need-cast-n Inv-loop μ-loop
-cast-n c = omega (arith, texts-held _ _ _ _ _ _ (c .before .before .loop .inv) (c .before .loop-test .taken))
+cast-n c = omega (arith, held (c .before))
 
 shared-slice-read-put-noted : tie.Need-shared-slice-read-put-noted Inv-loop μ-loop
 shared-slice-read-put-noted c = omega (arith, c .before .before .before .loop .inv .asked .answers, c .before .before .loop-test .taken)
-
-sub-put-noted : tie.Need-sub-put-noted Inv-loop μ-loop
-sub-put-noted c = omega (arith, texts-held _ _ _ _ _ _ (c .before .before .before .loop .inv) (c .before .before .loop-test .taken))
-
-part-put-noted-start : tie.Need-part-put-noted-start Inv-loop μ-loop
-part-put-noted-start c = omega (arith, texts-held _ _ _ _ _ _ (c .before .before .before .loop .inv) (c .before .before .loop-test .taken))
-
-part-put-noted-end : tie.Need-part-put-noted-end Inv-loop μ-loop
-part-put-noted-end c = omega (arith, texts-held _ _ _ _ _ _ (c .before .before .before .loop .inv) (c .before .before .loop-test .taken))
 
 put-noted-requires : tie.Need-put-noted-requires Inv-loop μ-loop
 put-noted-requires c κs =
@@ -47,10 +48,10 @@ put-noted-requires c κs =
     texts-asks _ _ _ _ _ _ (w .before .loop .inv) (w .loop-test .taken)
 
 mul-from : tie.Need-mul-from Inv-loop μ-loop
-mul-from c = let w = c .before .before .before .before .before .before .before .before in omega (arith, texts-held _ _ _ _ _ _ (w .before .loop .inv) (w .loop-test .taken))
+mul-from c = omega (arith, held (c .before .before .before .before .before .before .before .before))
 
 add-from : tie.Need-add-from Inv-loop μ-loop
-add-from c = let w = c .before .before .before .before .before .before .before .before in omega (arith, texts-held _ _ _ _ _ _ (w .before .loop .inv) (w .loop-test .taken))
+add-from c = omega (arith, held (c .before .before .before .before .before .before .before .before))
 
 add-i : tie.Need-add-i Inv-loop μ-loop
 add-i c = omega (arith, c .before .before .before .before .before .before .before .before .loop-test .taken)
@@ -81,9 +82,9 @@ put-stretch-spec =
     shared-slice-read-n
     cast-n
     shared-slice-read-put-noted
-    sub-put-noted
-    part-put-noted-start
-    part-put-noted-end
+    (λ c. omega (arith, held (c .before .before)))
+    (λ c. omega (arith, held (c .before .before)))
+    (λ c. omega (arith, held (c .before .before)))
     put-noted-requires
     mul-from
     add-from

@@ -1,0 +1,10 @@
+pub mod Packing
+pub mod Judging
+pub mod Rows
+pub mod Distinctness
+pub mod KeyLaws
+pub mod Answers
+pub mod TextLaws
+pub mod Finding
+pub mod Samples
+pub mod Keeping

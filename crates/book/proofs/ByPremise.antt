@@ -1,4 +1,5 @@
--- A call of a record that is no day mark: row 6, what the one-premise rules give, and their refusal, which leaves the book. Assumes nothing.
+-- A call of a record that is no day mark: row 6, what the one-premise rules give, and their refusal, which leaves the book. Assumes
+-- nothing.
 use Prim.Native.Nat.{ℕ, _≤_}
 use mathlib.Core.Path.{_≡_, refl, ap, _∙_}
 use mathlib.Core.List.{List, []}

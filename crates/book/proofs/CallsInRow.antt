@@ -132,7 +132,8 @@ by-row P calendar stop more free b (bytes ∷ rest) =
 
 module _ (calendar : List ℕ) where
   -- every call leaves a well-kept book
-  pub row-keeps : (free : ℕ) (b : Book) (records : List (List ℕ)) → bookKept b ≡ true → bookKept (callsInRow calendar free b records .book) ≡ true
+  pub row-keeps : (free : ℕ) (b : Book) (records : List (List ℕ)) → bookKept b ≡ true
+      → bookKept (callsInRow calendar free b records .book) ≡ true
   row-keeps = by-row (λ free b records c. bookKept b ≡ true → bookKept (c .book) ≡ true) calendar (λ free b records k. k)
       (λ free b bytes rest c h ih k. ih (called-keeps calendar b bytes k))
 

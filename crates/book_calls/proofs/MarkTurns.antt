@@ -109,7 +109,8 @@ module _ {calendar : List ℕ} {day : ℕ} {b : Book} {standing : ℕ} {buffer :
             ∙ ap (λ (l : List File). l ++ drop (i + 1) (b .files)) (sym done-more));
         wrote =
             subst⁻¹ (λ (l : List Notice). Writes standing buffer last (r .sent) l) told-more
-            (writes-then standing buffer told (marked calendar day file .notices) room-more after sent (m .wrote) last (r .sent) (did .wrote));
+            (writes-then standing buffer told (marked calendar day file .notices) room-more after sent (m .wrote) last (r .sent)
+            (did .wrote));
       }
 
   -- a turn on a file that the mark does not touch
@@ -121,5 +122,6 @@ module _ {calendar : List ℕ} {day : ℕ} {b : Book} {standing : ℕ} {buffer :
       let e : marked calendar day f ≡ record { file = f; notices = [] } =
       unchanged-stays calendar day last f mark-tidy window
       (ap (λ (x : Bool). markChangesFile x day last (held f)) (sym day-kind) ∙ sym tested ∙ stays) in
-      subst (λ (fs : List File). Marking calendar day b standing buffer (i + 1) sent (withPlaces c (c .count) fs) after) (set-getD (c .files) i past)
+      subst (λ (fs : List File). Marking calendar day b standing buffer (i + 1) sent (withPlaces c (c .count) fs) after)
+      (set-getD (c .files) i past)
       (mark-more (record { file = f; sent = sent }) (done-nothing (marked calendar day f) f sent after e))

@@ -1,5 +1,5 @@
--- The loop over the records of a stretch of tape: some are played and noted, and the course of those that are left is the rest of the whole.
--- Assumes nothing.
+-- The loop over the records of a stretch of tape: some are played and noted, and the course of those that are left is the rest of the
+-- whole. Assumes nothing.
 use Prim.Native.Nat.{ℕ, _+_, _*_, _-_, _≤_, _<_, min}
 use mathlib.Core.Path.{_≡_, refl, sym, ap, ap₂, subst, subst⁻¹, _∙_}
 use mathlib.Core.List.{List, [], _∷_, _++_, append-assoc, append-nil, map-append}
@@ -88,7 +88,8 @@ pub record Playing (calendar tape : List ℕ) (b : Book) (answers₀ counts₀ n
   pub counted : Noted (countsOf results) counts₀ counts
   pub wrote : Writes 0 notices₀ notices sent (noticesOf results)
   pub rest : callsInRow calendar (length notices₀) b (recordsOf (length answers₀) tape)
-      ≡ behind results (callsInRow calendar (length notices₀ - recordLength * sent) c (recordsOf (length answers₀ - played) (drop from tape)))
+      ≡ behind results
+      (callsInRow calendar (length notices₀ - recordLength * sent) c (recordsOf (length answers₀ - played) (drop from tape)))
 
 pub playing-none : (calendar tape : List ℕ) (b : Book) (answers counts notices numbers : List ℕ) → BookKept b
     → length answers ≤ length counts → numbers ≡ numbersOf b
@@ -135,7 +136,8 @@ module _ {calendar tape : List ℕ} {b : Book} {answers₀ counts₀ notices₀ 
 
   -- ---- the loop is left
   plays : (records : List (List ℕ))
-      → callsInRow calendar (length notices₀ - recordLength * sent) c (recordsOf (length answers₀ - played) (drop from tape)) ≡ stopped c records
+      → callsInRow calendar (length notices₀ - recordLength * sent) c (recordsOf (length answers₀ - played) (drop from tape))
+      ≡ stopped c records
       → Plays (callsInRow calendar (length notices₀) b (recordsOf (length answers₀) tape))
       (record { played = played; sent = sent; last = last; book = c }) answers₀ answers counts₀ counts notices₀ notices
   plays records e =
@@ -173,7 +175,8 @@ module _ {calendar tape : List ℕ} {b : Book} {answers₀ counts₀ notices₀ 
   pub plays-room : length notices - recordLength * sent < noticeBytes
       → Plays (callsInRow calendar (length notices₀) b (recordsOf (length answers₀) tape))
       (record { played = played; sent = sent; last = last; book = c }) answers₀ answers counts₀ counts notices₀ notices
-  plays-room h = plays _ (row-stops calendar (length notices₀ - recordLength * sent) c (recordsOf (length answers₀ - played) (drop from tape))
+  plays-room h =
+      plays _ (row-stops calendar (length notices₀ - recordLength * sent) c (recordsOf (length answers₀ - played) (drop from tape))
       (omega (arith, h, notices-length)))
 
   -- ---- a record is left and finds room
@@ -198,19 +201,24 @@ module _ {calendar tape : List ℕ} {b : Book} {answers₀ counts₀ notices₀ 
       rest-is : to ≡ min (from + recordLength) (length tape)
           → callsInRow calendar (length notices₀ - recordLength * sent) c (recordsOf (length answers₀ - played) (drop from tape))
           ≡ behind (result ∷ [])
-          (callsInRow calendar (length notices₀ - recordLength * o .sent) (o .book) (recordsOf (length answers₀ - (played + 1)) (drop to tape)))
+          (callsInRow calendar (length notices₀ - recordLength * o .sent) (o .book)
+          (recordsOf (length answers₀ - (played + 1)) (drop to tape)))
       rest-is ends =
           let free = length notices₀ - recordLength * sent in
           let left : length answers₀ - played - 1 ≡ length answers₀ - (played + 1) = omega arith in
           let on = dropped tape from to ends in
-          let after : free - recordLength * length (result .notices) ≡ length notices₀ - recordLength * o .sent = omega (arith, sent-more) in
+          let after : free - recordLength * length (result .notices) ≡ length notices₀ - recordLength * o .sent =
+          omega (arith, sent-more) in
           ap (callsInRow calendar free c)
-          (records-next (length answers₀ - played) (drop from tape) (omega (arith, more, answers-length)) (omega (arith, h, length-drop from tape))
+          (records-next (length answers₀ - played) (drop from tape) (omega (arith, more, answers-length))
+          (omega (arith, h, length-drop from tape))
           ∙ (λ i. sym (lent-record tape from to ends) i ∷ recordsOf (left i) (on i)))
           ∙ row-next calendar free c bytes (recordsOf (length answers₀ - (played + 1)) (drop to tape)) (omega (arith, room, notices-length))
-          ∙ (λ i. behind (result ∷ []) (callsInRow calendar (after i) (sym (made .book) i) (recordsOf (length answers₀ - (played + 1)) (drop to tape))))
+          ∙ (λ i. behind (result ∷ [])
+          (callsInRow calendar (after i) (sym (made .book) i) (recordsOf (length answers₀ - (played + 1)) (drop to tape))))
 
-      pub playing-more : to ≡ min (from + recordLength) (length tape) → {answer gave : ℕ} → answer ≡ number (o .answer) → gave ≡ o .sent - sent
+      pub playing-more : to ≡ min (from + recordLength) (length tape) → {answer gave : ℕ} → answer ≡ number (o .answer)
+          → gave ≡ o .sent - sent
           → Playing calendar tape b answers₀ counts₀ notices₀ (set answers played answer) (set counts played gave) (o .buffer) (o .book)
           (o .numbers) (played + 1) (o .sent) to (o .answer)
       playing-more ends {answer} {gave} is many =
@@ -230,7 +238,8 @@ module _ {calendar tape : List ℕ} {b : Book} {answers₀ counts₀ notices₀ 
             ended = made .answer ∙ sym (last-more Accepted (p .results) result);
             answered = subst⁻¹ (λ (l : List ℕ). Noted l answers₀ (set answers played answer))
                 (answers-more (p .results) result ∙ ap (λ (n : ℕ). answersOf (p .results) ++ (n ∷ [])) one)
-                (noted-more (answersOf (p .results)) answers₀ answers played answer (p .answered) noted (omega (arith, more, answers-length)));
+                (noted-more (answersOf (p .results)) answers₀ answers played answer (p .answered) noted
+                (omega (arith, more, answers-length)));
             counted = subst⁻¹ (λ (l : List ℕ). Noted l counts₀ (set counts played gave))
                 (counts-more (p .results) result ∙ ap (λ (n : ℕ). countsOf (p .results) ++ (n ∷ [])) some)
                 (noted-more (countsOf (p .results)) counts₀ counts played gave (p .counted) noted-counts

@@ -93,7 +93,8 @@ module _ (bytes : List ℕ) (b : Book) (well : bookKept b ≡ true) where
 
       -- where they refuse
       refused-there : (answer : Answer) → is kindDayMark r ≡ false
-          → ((calendar : List ℕ) → givenOn calendar (b .today) (some file) r ≡ refused answer (record { today = b .today; file = some file }))
+          → ((calendar : List ℕ) → givenOn calendar (b .today) (some file) r
+          ≡ refused answer (record { today = b .today; file = some file }))
           → (calendar : List ℕ) → called calendar b bytes ≡ refusal answer b
       refused-there answer other s calendar =
           call-one-refused calendar b bytes lent r kept called-room e other (not-new b r file found) answer

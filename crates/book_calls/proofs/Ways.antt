@@ -168,7 +168,8 @@ module _ {b : Book} {numbers : List ℕ} {standing : ℕ} {buffer : List ℕ} (t
 
       pub by-opening : {calendar : List ℕ} {f : File} {c : Book} {after : List ℕ} → f ≡ newFile r
           → c ≡ bookOf (b .today) (inserted at f (filesOf b)) → after ≡ numbersOf c
-          → Made calendar b bytes standing buffer (record { answer = Accepted; sent = standing; book = c; numbers = after; buffer = buffer })
+          → Made calendar b bytes standing buffer
+          (record { answer = Accepted; sent = standing; book = c; numbers = after; buffer = buffer })
       by-opening {calendar} new put own =
           made-of _ (opens .result calendar) refl (put ∙ ap (λ (g : File). bookOf (b .today) (inserted at g (filesOf b))) new)
           (writes-none standing buffer) own

@@ -10,7 +10,6 @@ ghost use Rattle.book_calls.specs.FileSteps.{FileGiven, Retires};
 use book::Book;
 use premise::Answer;
 use premise::File;
-use premise::FileOrNone;
 use records::Record;
 
 // What a record on a file gives: the answer, how many notices stand in the buffer, and the file afterwards.
@@ -36,13 +35,10 @@ pub fn on_file(
     buffer: &mut [u8],
 ) -> FileReply
     requires { ⌜ OnFile kindNewOrder (now calendar) today file r standing (now buffer) ⌝ }
-    ensures { λ p. ⌜ FileGiven (givenOn (now (calendar .entry)) today (some file) r) standing p (now (buffer .entry)) (now (buffer .exit)) ⌝ }
+    ensures { λ p. ⌜ FileGiven (givenOn (now (calendar .entry)) today (some file) r)
+        standing p (now (buffer .entry)) (now (buffer .exit)) ⌝ }
 {
-    let slot = FileOrNone {
-        held: true,
-        file: file,
-    };
-    let p = premise_steps::on_record(calendar, today, slot, r, standing, buffer);
+    let p = premise_steps::on_file(calendar, today, file, r, standing, buffer);
     let answer = p.answer;
     let after = p.after;
     let f = after.file;

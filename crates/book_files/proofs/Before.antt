@@ -3,12 +3,12 @@
 use Prim.Native.Nat.{ℕ, suc, _≤_, _<_}
 use mathlib.Core.Path.{_≡_, refl, ap, _∙_}
 use mathlib.Core.List.{List, [], _∷_}
-use mathlib.Core.Option.{none, some}
+use mathlib.Core.Option.{none}
 use mathlib.Core.Bool.{Bool, true, false, cond}
 use native.Mathlib.Omega.{arith}
-use lib.Dec.{eqb, ltb}
+use lib.Dec.{ltb}
 use lib.ListN.{length, getD}
-use borrow.Author.Tests.{ltb-true, ltb-false, eqb-true, eqb-false, lt-ltb, le-ltb}
+use borrow.Author.Tests.{ltb-true, ltb-false, lt-ltb, le-ltb}
 use Rattle.premise.specs.declared.File.{File}
 use Rattle.book.specs.Book.{fileFor}
 use Rattle.book.proofs.Files.{Rising, found-below, found-tail}
@@ -21,9 +21,6 @@ module _ (premise : ℕ) {f : File} {left rest : List File} (e : left ≡ f ∷ 
 
   pub before-next : f .premise < premise → before premise left ≡ suc (before premise rest)
   before-next h = rw (e, lt-ltb (f .premise) premise h)
-
-pub before-end : (premise : ℕ) {left : List File} → left ≡ [] → before premise left ≡ 0
-before-end premise e = rw e
 
 pub before-within : (premise : ℕ) (fs : List File) → before premise fs ≤ length fs
 before-within premise [] = omega arith
@@ -64,16 +61,3 @@ module _ (d : File) (premise : ℕ) where
           let p = front f fs (ltb-false (f .premise) premise t) in
           let other : f .premise ≡ premise → ⊥ = λ q. e (omega (arith, p)) (ap (λ (m : ℕ). getD (f ∷ fs) m d .premise) p ∙ q) in
           found-tail premise f fs other ∙ found-below premise (f .premise) fs (ltb-false (f .premise) premise t) (r .1)
-
-  -- a file that is found stands there
-  pub found-here : (n : ℕ) (fs : List File) → Rising n fs → (f : File) → fileFor premise fs ≡ some f → Here d premise fs
-  found-here n fs r f e = go (ltb (before premise fs) (length fs)) (eqb (getD fs (before premise fs) d .premise) premise) refl refl
-    where
-      apart : (before premise fs < length fs → getD fs (before premise fs) d .premise ≡ premise → ⊥) → Here d premise fs
-      apart out = let m = file-elsewhere n fs r out in let z : _≡_ {A = ℕ} 0 1 = cc (m, e) in absurd (omega (arith, z))
-
-      go : (inside same : Bool) → ltb (before premise fs) (length fs) ≡ inside → eqb (getD fs (before premise fs) d .premise) premise ≡ same
-          → Here d premise fs
-      go true true s t = (ltb-true (before premise fs) (length fs) s, eqb-true (getD fs (before premise fs) d .premise) premise t)
-      go true false s t = apart (λ h q. eqb-false (getD fs (before premise fs) d .premise) premise t q)
-      go false same s t = apart (λ h q. omega (arith, h, ltb-false (before premise fs) (length fs) s))

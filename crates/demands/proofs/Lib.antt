@@ -5,3 +5,4 @@ pub mod OnWay
 pub mod OneCall
 pub mod Picks
 pub mod Sample
+pub mod CallsInRow

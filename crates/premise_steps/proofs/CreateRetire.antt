@@ -1,29 +1,22 @@
--- What a record of kinds 1 and 2 gives, and one without a file, by the tests that were made: one law for each of rows 4, 5 and 7, and one
--- for each acceptance. Assumes nothing.
-use Prim.Native.Nat.{ℕ, _≤_}
+-- What a record of kinds 1 and 2 gives: one law for each of rows 5 and 7, and one for each acceptance. Assumes nothing.
+use Prim.Native.Nat.{ℕ}
 use mathlib.Core.Path.{_≡_, refl, _∙_}
 use mathlib.Core.List.{List, []}
 use mathlib.Core.Option.{none, some}
 use mathlib.Core.Bool.{true, false, cond}
-use borrow.Author.Tests.{le-leb}
 use Rattle.lists.specs.Search.{anyOf}
 use Rattle.records.specs.declared.Record.{Record}
-use Rattle.records.specs.Records.{kindCreate, kindRetire, kindReply}
+use Rattle.records.specs.Records.{kindCreate, kindRetire}
 use Rattle.premise.specs.declared.File.{File}
-use Rattle.premise.specs.declared.Answer.the-variants.{Accepted, NoSuchPremise, PremiseHeld, OrderOpen}
+use Rattle.premise.specs.declared.Answer.the-variants.{Accepted, PremiseHeld, OrderOpen}
 use Rattle.premise.specs.Orders.{isOpen, held}
 use Rattle.premise.specs.Steps.{newFile}
 use Rattle.premise.specs.Refusals.{number, firstRow, premiseRows, orderRows, rows}
 use Rattle.premise.specs.OnePremise.{accepted, refused, step}
 use Rattle.premise_steps.proofs.replies.Decided.{on, refused-by, accepted-by}
 
--- ---- rows 4 and 5: whether there is a file
+-- ---- row 5: whether there is a file
 module _ (calendar : List ℕ) (today : ℕ) (r : Record) where
-  pub no-file : kindRetire ≤ r .kind → r .kind ≤ kindReply → step calendar (on today none) r ≡ refused NoSuchPremise (on today none)
-  unfolding premiseRows number
-  no-file low high = refused-by calendar today none r NoSuchPremise
-      (simp (le-leb kindRetire (r .kind) low, le-leb (r .kind) kindReply high)) refl
-
   pub create-held : (f : File) → r .kind ≡ kindCreate → step calendar (on today (some f)) r ≡ refused PremiseHeld (on today (some f))
   unfolding premiseRows number
   create-held f e = refused-by calendar today (some f) r PremiseHeld (rw e) refl

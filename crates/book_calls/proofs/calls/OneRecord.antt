@@ -19,7 +19,8 @@ use Rattle.book.proofs.CallsInRow.{records-next, called-lent, freeAfter, row-no
 module _ (calendar : List ℕ) (b : Book) (bytes lent : List ℕ) (well : bookKept b ≡ true) (room : noticeBytes ≤ length lent)
     (whole : length bytes ≡ recordLength) where
   -- its course
-  one : callsInRow calendar (length lent) b (recordsOf 1 bytes) ≡ andThen (called calendar b bytes) (stopped (called calendar b bytes .book) [])
+  one : callsInRow calendar (length lent) b (recordsOf 1 bytes)
+      ≡ andThen (called calendar b bytes) (stopped (called calendar b bytes .book) [])
   one =
       ap (callsInRow calendar (length lent) b)
       (records-next 1 bytes (omega arith) (omega (arith, whole))

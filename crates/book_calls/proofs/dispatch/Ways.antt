@@ -45,7 +45,8 @@ module _ (today : ℕ) (numbers : List ℕ) (count : ℕ) (r : Record) where
   kind-new h = rw (eq-eqb (r .kind) kindCreate h)
 
   module _ (other : r .kind ≡ kindCreate → ⊥) where
-    pub kind-held : kindRetire ≤ r .kind → r .kind ≤ kindReply → taskFor today numbers count r ≡ onHeld r (placeOfPremise (r .premise) numbers)
+    pub kind-held : kindRetire ≤ r .kind → r .kind ≤ kindReply
+        → taskFor today numbers count r ≡ onHeld r (placeOfPremise (r .premise) numbers)
     kind-held from upto = rw (ne-eqb (r .kind) kindCreate other, le-leb kindRetire (r .kind) from, le-leb (r .kind) kindReply upto)
 
     pub kind-mark : (r .kind < kindRetire) ⊎ (kindReply < r .kind) → taskFor today numbers count r ≡ onMark today (r .day)

@@ -33,7 +33,7 @@ returns-3 c =
     let a = k .before .before .before .before .before .args in
     refused (a .calendar .now) (a .b) (a .bytes .now) (a .buffer .now)
     (call-other-length (a .calendar .now) (a .b) (a .bytes .now) (a .buffer .now) (omega (arith, k .before .if1 .left))
-    (sym (k .book-kept .ensures) ∙ not-false _ (t .before .if2 .left)) (λ q. t .if3 .taken (omega (arith, q))))
+    (sym (k .book-kept .ensures) ∙ not-false _ (t .before .if2 .left)) (λ q. omega (arith, q, t .if3 .taken)))
     (c .refuse3 .ensures)
 
 play-requires : tie.Need-play-requires

@@ -1,12 +1,14 @@
 -- `play` meets its contract. The outer loop's invariant: the records before the one reached are played and noted, and the course of those
 -- that are left is the rest of the whole; its measure is the answers that can still be noted. The inner loop's: the files before the one
 -- reached are marked; its measure is the files left. Assumes nothing.
-use Prim.Native.Nat.{_-_, _<_}
+use Prim.Native.Nat.{_*_, _-_, _≤_, _<_}
 use mathlib.Core.Path.{refl}
 use mathlib.Core.Logic.{⊎-elim}
 use native.Mathlib.Omega.{arith}
 use lib.ListN.{length, take, drop}
+use Rattle.records.specs.Layout.{recordLength}
 use Rattle.book.specs.Book.{mostFiles}
+use Rattle.book.specs.Calls.{noticeBytes}
 use Rattle.book_calls.proofs.Marking.{Marking, mark-none}
 use Rattle.book_calls.proofs.MarkTurns.{mark-place, mark-tidy, mark-room, mark-more, mark-still}
 use Rattle.book_calls.proofs.Ways.{Standing, Made, made-as, each-place, task-asks, by-refusal, held-place, held-asks, by-file}
@@ -48,10 +50,14 @@ abbrev began : (l : tie.At-loop Inv-loop2 μ-loop2 Inv-loop μ-loop) → tie.Sta
 began l = l .before .before .before .before .before .before .before
 
 -- a record is left and finds room
+room-left : (e : tie.Else2 Inv-loop2 μ-loop2 Inv-loop μ-loop)
+    → noticeBytes ≤ length (e .before .before .before .loop .notices) - recordLength * e .before .before .before .loop .sent
+room-left e = omega (arith, e .if2 .left)
+
 stands : (e : tie.Else2 Inv-loop2 μ-loop2 Inv-loop μ-loop)
     → Standing (e .before .before .before .loop .c) (e .before .before .before .loop .numbers) (e .before .before .before .loop .sent)
     (e .before .before .before .loop .notices)
-stands e = let i = e .before .before in standing (i .before .loop .inv) (i .loop-test .taken) (e .before .if1 .left) (e .if2 .left)
+stands e = let i = e .before .before in standing (i .before .loop .inv) (i .loop-test .taken) (e .before .if1 .left) (room-left e)
 
 -- ---- the record's premise is held
 held-at : (d : tie.After-task2 Inv-loop2 μ-loop2 Inv-loop μ-loop) → d .task2 .given .0 .0 < mostFiles
@@ -84,7 +90,7 @@ mark-requires c κs =
     let j = i .before in
     record {
       tidy = mark-tidy (j .loop2 .inv) (i .loop2-test .taken);
-      room = mark-room (j .loop2 .inv) (i .loop2-test .taken);
+      room = omega (arith, mark-room (j .loop2 .inv) (i .loop2-test .taken));
       window = j .before .last-in-window .ensures;
     }
 
@@ -107,7 +113,8 @@ insert-requires : tie.Need-insert-requires Inv-loop2 μ-loop2 Inv-loop μ-loop
 insert-requires c κs =
     let d = c .before .before in
     let k = d .before .before in
-    open-asks (stands (k .before .before .before .before)) _ (k .task-of .ensures) (d .task4 .given .1)
+    let h = open-asks (stands (k .before .before .before .before)) _ (k .task-of .ensures) (d .task4 .given .1) in
+    (h .0, omega (arith, h .1), h .2)
 
 close-at : (d : tie.After-task5 Inv-loop2 μ-loop2 Inv-loop μ-loop) → d .task5 .given .0 .0 < mostFiles
 close-at d =
@@ -126,8 +133,8 @@ MadeAt c =
     let m = c .before .before .before .before in
     let l = m .before .before .before .before in
     let a = began l .args in
-    Made (a .calendar .now) (l .loop .c) (take (m .record-end .result - l .loop .from) (drop (l .loop .from) (a .tape .now))) (l .loop .sent)
-    (l .loop .notices)
+    Made (a .calendar .now) (l .loop .c) (take (m .record-end .result - l .loop .from) (drop (l .loop .from) (a .tape .now)))
+    (l .loop .sent) (l .loop .notices)
     (record {
       answer = c .match .last;
       sent = c .match .sent;
@@ -165,7 +172,7 @@ sub-counts c =
     let i = e .before .before in
     omega (
       arith,
-      sent-more (i .before .loop .inv) (i .loop-test .taken) (e .before .if1 .left) (e .if2 .left) (m .record-end .result) (made x),
+      sent-more (i .before .loop .inv) (i .loop-test .taken) (e .before .if1 .left) (room-left e) (m .record-end .result) (made x),
     )
 
 cast-counts : tie.Need-cast-counts Inv-loop2 μ-loop2 Inv-loop μ-loop
@@ -176,7 +183,7 @@ cast-counts c =
     let i = e .before .before in
     omega (
       arith,
-      sent-few (i .before .loop .inv) (i .loop-test .taken) (e .before .if1 .left) (e .if2 .left) (m .record-end .result) (made x),
+      sent-few (i .before .loop .inv) (i .loop-test .taken) (e .before .if1 .left) (room-left e) (m .record-end .result) (made x),
     )
 
 -- where the record was reached
@@ -190,7 +197,7 @@ loop-again c =
     let m = x .before .before .before .before in
     let e = m .before in
     let i = e .before .before in
-    playing-more (i .before .loop .inv) (i .loop-test .taken) (e .before .if1 .left) (e .if2 .left) (m .record-end .result) (made x)
+    playing-more (i .before .loop .inv) (i .loop-test .taken) (e .before .if1 .left) (room-left e) (m .record-end .result) (made x)
     (m .record-end .ensures) (n .number-of .ensures) refl
 
 pub play-spec : {M : Type 1} → statement M
@@ -284,4 +291,4 @@ play-spec =
     (λ c. answers-length (c .before .before .before .loop .inv))
     (λ c. counts-length (c .before .before .before .loop .inv))
     (λ c. notices-length (c .before .before .before .loop .inv))
-    (λ c. plays-room (c .before .before .before .loop .inv) (c .if2 .taken)))
+    (λ c. plays-room (c .before .before .before .loop .inv) (omega (arith, c .if2 .taken))))

@@ -1,4 +1,4 @@
--- Which case of `clockChanges` holds, by the tests that led there; an order that the clock does not change is left by it. Assumes nothing.
+-- Which case of `clockChanges` holds, by the tests that led there; an order of which it says no is left by the clock. Assumes nothing.
 use Prim.Native.Nat.{ℕ}
 use mathlib.Core.Path.{_≡_, refl, sym, ap, _∙_}
 use mathlib.Core.Bool.{Bool, true, false, cond, _&&_, _||_, false≢true}
@@ -8,25 +8,24 @@ use Rattle.lists.proofs.TestLaws.{or-left, or-right}
 use Rattle.premise.specs.declared.Order.{Order}
 use Rattle.premise.specs.Orders.{inReview, permitPending, cancelPending, hasStatus}
 use Rattle.premise.specs.Passes.{same}
-use Rattle.premise.specs.Clock.{mostWaited, grown, reviewed, permitAwaited, cancelAwaited, ticked}
-use Rattle.premise.specs.Clock.{reviewEnds}
+use Rattle.premise.specs.Clock.{mostWaited, grown, reviewEnds, reviewed, permitAwaited, cancelAwaited, ticked}
 use Rattle.premise_laws.proofs.WaitGoesOn.{review-goes-on, permit-goes-on}
 use Rattle.premise_laws.specs.Changes.{clockChanges}
 
 module _ (business : Bool) (today : ℕ) (o : Order) where
-  pub moves-review : o .status ≡ inReview → (business || reviewEnds (o .waited .0) (o .requested) today) ≡ clockChanges business today o
+  pub clock-review : o .status ≡ inReview → (business || reviewEnds (o .waited .0) (o .requested) today) ≡ clockChanges business today o
   unfolding clockChanges
-  moves-review review = simp (eq-eqb (o .status) inReview review)
+  clock-review review = simp (eq-eqb (o .status) inReview review)
 
   module _ (review : o .status ≡ inReview → ⊥) where
-    pub moves-permit : o .status ≡ permitPending
+    pub clock-permit : o .status ≡ permitPending
         → (eqb (o .waited .0) mostWaited || business && leb (o .requested) today) ≡ clockChanges business today o
     unfolding clockChanges
-    moves-permit permit = simp (ne-eqb (o .status) inReview review, eq-eqb (o .status) permitPending permit)
+    clock-permit permit = simp (ne-eqb (o .status) inReview review, eq-eqb (o .status) permitPending permit)
 
-    pub moves-cancel : (o .status ≡ permitPending → ⊥) → hasStatus cancelPending o ≡ clockChanges business today o
+    pub clock-cancel : (o .status ≡ permitPending → ⊥) → hasStatus cancelPending o ≡ clockChanges business today o
     unfolding clockChanges
-    moves-cancel permit = simp (ne-eqb (o .status) inReview review, ne-eqb (o .status) permitPending permit)
+    clock-cancel permit = simp (ne-eqb (o .status) inReview review, ne-eqb (o .status) permitPending permit)
 
   module _ (premise : ℕ) where
     review-still : (business || reviewEnds (o .waited .0) (o .requested) today) ≡ false → reviewed business today premise o ≡ same o
@@ -43,7 +42,7 @@ module _ (business : Bool) (today : ℕ) (o : Order) where
         permit-goes-on business today premise o (o .waited .0) (sym (ap (λ (b : Bool). grown b o) (or-right all counts e)))
         (λ w. false≢true (sym (or-left all counts e) ∙ eq-eqb (o .waited .0) mostWaited w))
 
-    -- the clock leaves an order that does not move
+    -- the clock leaves an order that it does not change
     pub tick-still : clockChanges business today o ≡ false → ticked business today premise o ≡ same o
     unfolding clockChanges ticked
     tick-still = go (hasStatus inReview o) (hasStatus permitPending o) (hasStatus cancelPending o)

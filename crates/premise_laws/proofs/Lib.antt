@@ -3,6 +3,7 @@ pub mod ByPlace
 pub mod ChangesFile
 pub mod ChangesOrder
 pub mod ClockChanges
+pub mod ClockExact
 pub mod DropOnSwitchDay
 pub mod Few
 pub mod FileOrders

@@ -1,11 +1,11 @@
 -- What changes: which orders the clock and the evaluation change, the latter by the last day in window, and so which files a day mark
 -- leaves alone; proofs/MarkChanges.antt proves the law.
 use Prim.Native.Nat.{ℕ, suc}
-use mathlib.Core.Bool.{Bool, cond, _&&_, _||_, false}
+use mathlib.Core.Bool.{Bool, true, false, cond, _&&_, _||_}
 use lib.Dec.{eqb, leb}
 use Rattle.premise.specs.declared.Order.{Order}
 use Rattle.premise.specs.Orders.{inReview, permitPending, cancelPending, hasStatus, scheduled, held}
-use Rattle.premise.specs.Clock.{mostWaited, reviewEnds}
+use Rattle.premise.specs.Clock.{mostWaited, reviewEnds, ticked}
 use Rattle.days.specs.Window.{upTo, windowWidth, LastInWindow}
 use Rattle.premise.specs.Evaluation.{isScheduledOrCancelPending, givesWay, isDisplaced, isOvertaken, isDue}
 use mathlib.Core.List.{List, [], _∷_}
@@ -22,6 +22,12 @@ clockChanges business today o =
     cond (hasStatus inReview o) (business || reviewEnds (o .waited .0) (o .requested) today)
     (cond (hasStatus permitPending o) (eqb (o .waited .0) mostWaited || business && leb (o .requested) today)
     (hasStatus cancelPending o))
+
+-- The clock changes every order of which this says so, well kept or not; proofs/ClockExact.antt proves it. (That it leaves every other is
+-- `tick-still` of proofs/ClockChanges.antt.)
+abbrev pub ClockChangesThese : Type 0
+ClockChangesThese =
+    (business : Bool) (today premise : ℕ) (o : Order) → clockChanges business today o ≡ true → ticked business today premise o .order ≡ o → ⊥
 
 -- Permit Pending, or Scheduled or Cancel Pending and in window.
 abbrev pub mayChange : ℕ → Order → Bool

@@ -4,7 +4,7 @@ use mathlib.Core.Bool.{Bool, _||_}
 use lib.Dec.{eqb}
 use borrow.Author.Needs.{needs}
 use Rattle.premise.specs.Clock.{mostWaited}
-use Rattle.premise_laws.proofs.ClockChanges.{moves-review, moves-permit, moves-cancel}
+use Rattle.premise_laws.proofs.ClockChanges.{clock-review, clock-permit, clock-cancel}
 use Rattle.premise_clock.proofs.changes.clock_changes_order.Statement.{statement}
 use Rattle.premise_clock.proofs.changes.clock_changes_order.Tie as tie
 
@@ -15,7 +15,7 @@ returns : tie.Need-returns
 returns c =
     let a = c .before .before .before .args in
     ap (λ (ends : Bool). a .business || ends) (c .review-ends .ensures)
-    ∙ moves-review (a .business) (a .today) (a .o) (c .before .if1 .taken)
+    ∙ clock-review (a .business) (a .today) (a .o) (c .before .if1 .taken)
 
 counts-requires : tie.Need-counts-requires
 counts-requires c κs = search needs
@@ -26,14 +26,14 @@ returns-2 c =
     let e = p .before .before in
     let a = e .before .before .args in
     ap (λ (counts : Bool). eqb (a .o .waited .0) mostWaited || counts) (c .counts .ensures)
-    ∙ moves-permit (a .business) (a .today) (a .o) (e .if1 .left) (p .if2 .taken)
+    ∙ clock-permit (a .business) (a .today) (a .o) (e .if1 .left) (p .if2 .taken)
 
 returns-3 : tie.Need-returns-3
 returns-3 c =
     let p = c .before in
     let e = p .before .before in
     let a = e .before .before .args in
-    moves-cancel (a .business) (a .today) (a .o) (e .if1 .left) (p .if2 .left)
+    clock-cancel (a .business) (a .today) (a .o) (e .if1 .left) (p .if2 .left)
 
 pub clock-changes-order-spec : {M : Type 1} → statement M
 clock-changes-order-spec =

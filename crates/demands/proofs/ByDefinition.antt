@@ -56,7 +56,7 @@ short-plays calendar start tape ms s fed p room =
 
 -- ---- played by definition
 module _ (calendar : List ℕ) where
-  promised : (b : Book) (tape : List (List ℕ)) → Played calendar b (plays calendar b tape)
+  pub promised : (b : Book) (tape : List (List ℕ)) → Played calendar b (plays calendar b tape)
   unfolding made plays
   promised b [] = tt
   promised b (bytes ∷ tape) = (
@@ -64,12 +64,12 @@ module _ (calendar : List ℕ) where
     promised (call calendar b bytes lent .book) tape,
   )
 
-  fed-to : (b : Book) (tape : List (List ℕ)) → tapeOf (plays calendar b tape) ≡ tape
+  pub fed-to : (b : Book) (tape : List (List ℕ)) → tapeOf (plays calendar b tape) ≡ tape
   unfolding made plays
   fed-to b [] = refl
   fed-to b (bytes ∷ tape) = ap (λ (l : List (List ℕ)). bytes ∷ l) (fed-to (call calendar b bytes lent .book) tape)
 
-  rooms : (b : Book) (tape : List (List ℕ)) → Each (λ (m : Made). noticeBytes ≤ length (m .lent)) (plays calendar b tape)
+  pub rooms : (b : Book) (tape : List (List ℕ)) → Each (λ (m : Made). noticeBytes ≤ length (m .lent)) (plays calendar b tape)
   unfolding made plays lent
   rooms b [] = tt
   rooms b (bytes ∷ tape) = (lit≤ tt, rooms (call calendar b bytes lent .book) tape)

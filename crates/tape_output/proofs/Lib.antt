@@ -4,3 +4,4 @@ pub mod LineLengths
 pub mod Lines
 pub mod Ready
 pub mod Stretches
+pub mod TapeIsCalls

@@ -1,3 +1,4 @@
 pub mod Output
 pub mod Stretches
 pub mod Lengths
+pub mod TapeIsCalls

@@ -71,7 +71,8 @@ place-known premise j (f ∷ fs) = go (eqb (f .premise) premise) (ltb premise (f
         let p = front past premise f fs (omega (arith, ltb-true premise (f .premise) t)) in
         (omega (arith, p), λ i q. eqb-false (f .premise) premise s (sym (ap (λ (n : ℕ). getD (f ∷ fs) n past .premise) p) ∙ q))
     go false false s t ih =
-        known-further premise j f fs (omega (arith, eqb-false (f .premise) premise s, ltb-false premise (f .premise) t)) (placeFrom premise (suc j) (map numberOf fs)) ih
+        known-further premise j f fs (omega (arith, eqb-false (f .premise) premise s, ltb-false premise (f .premise) t))
+        (placeFrom premise (suc j) (map numberOf fs)) ih
 
 -- ---- among the numbers of a book's files
 take-numbers : (n : ℕ) (fs : List File) → take n (map numberOf fs) ≡ map numberOf (take n fs)

@@ -10,7 +10,8 @@ use lib.Seq.{length-take-le, take-take, getD-take, getD-drop}
 use borrow.Author.Tests.{eq-eqb, ne-eqb}
 use Rattle.lists.specs.Search.{allOf}
 use Rattle.records.specs.Layout.{recordLength, fieldOf}
-use Rattle.esi_rules.specs.Directory.{idWidth, zeroField, records, digitCount, premiseOf, isCount, halvesKept, recordKept, noneTwice, sound}
+use Rattle.esi_rules.specs.Directory.{idWidth, zeroField, records, digitCount, premiseOf, isCount, halvesKept, recordKept, noneTwice}
+use Rattle.esi_rules.specs.Directory.{sound}
 use Rattle.esi_rules.proofs.KeyLaws.{count-byte}
 
 -- ---- a record's

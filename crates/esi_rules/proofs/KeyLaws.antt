@@ -18,7 +18,8 @@ use Rattle.records.proofs.Fields.{bytes-drop}
 use Rattle.esi_rules.specs.declared.Key.{Key}
 use Rattle.esi_rules.specs.Packed.{lastDigit, isDigit, Digits, isUnused, halves, packed}
 use Rattle.esi_rules.specs.Distinct.{distinct}
-use Rattle.esi_rules.specs.Directory.{idWidth, zeroField, records, digitCount, premiseOf, usedHalves, longCount, isCount, halvesKept, recordKept, sameDigits, sameId, samePremise, noneTwice}
+use Rattle.esi_rules.specs.Directory.{idWidth, zeroField, records, digitCount, premiseOf, usedHalves, longCount, isCount, halvesKept}
+use Rattle.esi_rules.specs.Directory.{recordKept, sameDigits, sameId, samePremise, noneTwice}
 use Rattle.esi_rules.specs.LookUp.{hasDigits}
 use Rattle.esi_rules.specs.Keys.{keyWidth, firstWidth, lastWidth, keyOf, keyBytes, sameKey, hasKey, hasEither, clashes}
 use Rattle.esi_rules.proofs.Packing.{packed-decides, packs-back, length-packed, packed-bytes}

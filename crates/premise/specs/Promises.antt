@@ -3,14 +3,14 @@ use Prim.Native.Nat.{ℕ, _+_, _*_, _≤_}
 use mathlib.Core.Path.{_≡_}
 use mathlib.Core.List.{List, _++_}
 use mathlib.Core.Option.{Option, none, some}
-use mathlib.Core.Bool.{true, false, cond}
+use mathlib.Core.Bool.{true, false}
 use lib.ListN.{length, take, drop}
 use Rattle.days.specs.Window.{windowWidth, LastInWindow}
 use Rattle.records.specs.declared.Record.{Record}
 use Rattle.records.specs.declared.Notice.{Notice}
 use Rattle.records.specs.Layout.{recordLength}
 use Rattle.records.specs.Notices.{encodeAll}
-use Rattle.records.specs.Records.{kindCreate, kindReply}
+use Rattle.records.specs.Records.{kindReply}
 use Rattle.premise.specs.declared.File.{File}
 use Rattle.premise.specs.declared.FileOrNone.{FileOrNone}
 use Rattle.premise.specs.declared.OrderAfter.{OrderAfter}
@@ -45,14 +45,6 @@ abbrev pub asStruct : Option File → FileOrNone
 asStruct none = record { held = false; file = blankFile }
 asStruct (some f) = record { held = true; file = f }
 
-abbrev pub asOption : FileOrNone → Option File
-asOption s = cond (s .held) (some (s .file)) none
-
--- what is asked of a file or none
-pub record TidyOrNone (s : FileOrNone) : Type 0 where
-  pub form : s ≡ asStruct (asOption s)
-  pub tidy : s .held ≡ true → Tidy (s .file)
-
 -- a record on a file or none
 pub record Answered (given : Given) (standing : ℕ) (r : PremiseAfter) (before after : List ℕ) : Type 0 where
   pub answer : r .answer ≡ given .answer
@@ -72,10 +64,3 @@ pub record OnFile (least : ℕ) (calendar : List ℕ) (today : ℕ) (f : File) (
   pub from : least ≤ r .kind
   pub upto : r .kind ≤ kindReply
   pub room : Room standing (givenOn calendar today (some f) r .notices) buffer
-
--- a record of kinds 1 to 9 on a file or none
-pub record OnFileOrNone (calendar : List ℕ) (today : ℕ) (s : FileOrNone) (r : Record) (standing : ℕ) (buffer : List ℕ) : Type 0 where
-  pub tidy : TidyOrNone s
-  pub from : kindCreate ≤ r .kind
-  pub upto : r .kind ≤ kindReply
-  pub room : Room standing (givenOn calendar today (asOption s) r .notices) buffer

@@ -95,7 +95,8 @@ module _ (today last : ℕ) (os : List Order) (i : ℕ) (o : Order) where
   pub changes-not : mayChange last o ≡ false → changesOrder today last os i o ≡ false
   changes-not e =
       let near = isScheduledOrCancelPending o && upTo last (o .scheduled) in
-      sym (changes-far (or-right (hasStatus permitPending o) near e)) ∙ not-overtaken today os o (or-left (hasStatus permitPending o) near e)
+      sym (changes-far (or-right (hasStatus permitPending o) near e))
+      ∙ not-overtaken today os o (or-left (hasStatus permitPending o) near e)
 
   -- ---- no pass
   pub let-be : changesOrder today last os i o ≡ false → LetBe today last os i o

@@ -69,7 +69,8 @@ module _ (near : ℕ → Bool) (today premise retailer : ℕ) where
       (λ i o h. leaves-drop near today premise retailer os o h) 0 os k
 
   permits-leave : (os : List Order) → Each OrderKept os → LeavesAll os (permitsOvertaken today premise os .orders)
-  permits-leave os k = pass-leaves (λ (i : ℕ). permitOvertaken today premise os) (λ i o h. leaves-overtaken near today premise retailer os o h)
+  permits-leave os k = pass-leaves (λ (i : ℕ). permitOvertaken today premise os)
+      (λ i o h. leaves-overtaken near today premise retailer os o h)
       0 os k
 
   losses-leave : (os : List Order) → Each OrderKept os → LeavesAll os (lossNotices near premise retailer os .orders)

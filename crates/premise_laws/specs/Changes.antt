@@ -27,7 +27,8 @@ clockChanges business today o =
 -- `tick-still` of proofs/ClockChanges.antt.)
 abbrev pub ClockChangesThese : Type 0
 ClockChangesThese =
-    (business : Bool) (today premise : ℕ) (o : Order) → clockChanges business today o ≡ true → ticked business today premise o .order ≡ o → ⊥
+    (business : Bool) (today premise : ℕ) (o : Order) → clockChanges business today o ≡ true → ticked business today premise o .order ≡ o
+    → ⊥
 
 -- Permit Pending, or Scheduled or Cancel Pending and in window.
 abbrev pub mayChange : ℕ → Order → Bool

@@ -1,4 +1,5 @@
--- What the layers above may rely on about records, as statements; proofs/Ranges.antt, proofs/Formed.antt and proofs/Readings.antt prove them.
+-- What the layers above may rely on about records, as statements; proofs/Ranges.antt, proofs/Formed.antt and proofs/Readings.antt prove
+-- them.
 use Prim.Native.Nat.{ℕ, _≤_, _<_}
 use mathlib.Core.Path.{_≡_}
 use mathlib.Core.Logic.{_↔_}

@@ -80,7 +80,8 @@ returns c =
     let w = l .before in
     let s = w .before .before .before in
     let a = s .args in
-    subst (λ (business : Bool). DoneToFile (onFile (a .file) (pass (λ (i : ℕ). ticked business (a .today) (a .file .premise)) (held (a .file))))
+    subst (λ (business : Bool). DoneToFile
+    (onFile (a .file) (pass (λ (i : ℕ). ticked business (a .today) (a .file .premise)) (held (a .file))))
     (a .standing) (record { file = l .loop .out; sent = l .loop .sent }) (a .buffer .now) (l .loop .buffer))
     (w .is-business-day .ensures)
     (sofar-all (l .loop .inv) (c .loop-test .left))

@@ -43,7 +43,8 @@ a-switch t answer said =
     let e = t .before .before in
     let w = e .before in
     let a = w .before .before .before .args in
-    said ∙ changes-switch (a .today) (a .last) (held (a .file)) (a .i) (a .o) (w .before .if1 .left) (sym (w .is-due .ensures) ∙ e .if2 .left)
+    said ∙ changes-switch (a .today) (a .last) (held (a .file)) (a .i) (a .o) (w .before .if1 .left)
+    (sym (w .is-due .ensures) ∙ e .if2 .left)
     (sym (t .before .is-switch .ensures) ∙ t .if3 .taken)
 
 returns-3 : tie.Need-returns-3

@@ -13,7 +13,6 @@ use Rattle.lists.specs.Shift.{inserted, removed}
 use Rattle.lists.proofs.SearchLaws.{each-at}
 use Rattle.days.specs.Days.{lastDay}
 use Rattle.records.specs.declared.Record.{Record}
-use Rattle.records.specs.declared.Notice.{Notice}
 use Rattle.records.specs.Layout.{recordLength}
 use Rattle.records.specs.Records.{kindNewOrder, kindDayMark}
 use Rattle.records.proofs.Readings.{says}
@@ -41,8 +40,7 @@ use Rattle.book_calls.specs.declared.dispatch.Task.{Task}
 use Rattle.book_calls.specs.declared.dispatch.Task.the-variants.{Refused, Opens, Closes, NextDay}
 use Rattle.book_calls.specs.declared.dispatch.Task.the-variants as variant
 use Rattle.book_calls.specs.declared.files.FileReply.{FileReply}
-use Rattle.book_calls.specs.declared.files.Retired.{Retired}
-use Rattle.book_calls.specs.FileSteps.{FileGiven, Retires}
+use Rattle.book_calls.specs.FileSteps.{FileGiven}
 use Rattle.book_calls.specs.Tasks.{taskOf, Known, KnownOpens, KnownCloses, KnownHeld}
 use Rattle.book_calls.proofs.Marking.{Asked, Marking, dated, mark-asks, mark-book, mark-wrote}
 use Rattle.book_calls.proofs.Tasks.{task-known}
@@ -182,21 +180,26 @@ module _ {b : Book} {numbers : List ℕ} {standing : ℕ} {buffer : List ℕ} (t
       pub close-place : at < mostFiles
       close-place = omega (arith, closes .within, well-kept .tidy .few)
 
-      pub close-asks : TidyBook b × (at < b .count) × Tidy (getD (b .files) at past)
-      close-asks = (well-kept .tidy, closes .within, file-kept at (closes .within) .tidy)
+      pub closed-tidy : Tidy (getD (b .files) at past)
+      closed-tidy = file-kept at (closes .within) .tidy
 
-      pub by-closing : {calendar : List ℕ} (p : Retired) {after : List ℕ} → Retires b at (getD (b .files) at past) p
-          → after ≡ numbersOf (p .book)
+      pub close-asks : TidyBook b × (at < b .count)
+      close-asks = (well-kept .tidy, closes .within)
+
+      -- what comes of it, by whether an order is open
+      by-open : {one : Bool} → anyOf isOpen (held (getD (b .files) at past)) ≡ one → (calendar : List ℕ)
+          → called calendar b bytes ≡ cond one (refusal OrderOpen b)
+          (record { answer = Accepted; notices = []; book = bookOf (b .today) (removed at (filesOf b)) })
+      by-open e calendar = closes .result calendar ∙ ap (λ (one : Bool). cond one (refusal OrderOpen b)
+          (record { answer = Accepted; notices = []; book = bookOf (b .today) (removed at (filesOf b)) })) e
+
+      pub by-open-order : {calendar : List ℕ} → anyOf isOpen (held (getD (b .files) at past)) ≡ true
           → Made calendar b bytes standing buffer
-          (record { answer = p .answer; sent = standing; book = p .book; numbers = after; buffer = buffer })
-      by-closing {calendar} p gives own =
-          made-of _ (closes .result calendar) (gives .answer) (gives .book)
-          (subst (λ (l : List Notice). Writes standing buffer buffer standing l) (silent (anyOf isOpen (held (getD (b .files) at past))))
-          (writes-none standing buffer))
-          own
-        where
-          -- neither a refusal nor an acceptance gives a notice
-          silent : (one : Bool) → [] ≡ cond one (refusal OrderOpen b)
-              (record { answer = Accepted; notices = []; book = bookOf (b .today) (removed at (filesOf b)) }) .notices
-          silent true = refl
-          silent false = refl
+          (record { answer = OrderOpen; sent = standing; book = b; numbers = numbers; buffer = buffer })
+      by-open-order {calendar} e = made-of _ (by-open e calendar) refl refl (writes-none standing buffer) (t .own)
+
+      pub by-closing : {calendar : List ℕ} {c : Book} {after : List ℕ} → anyOf isOpen (held (getD (b .files) at past)) ≡ false
+          → c ≡ bookOf (b .today) (removed at (filesOf b)) → after ≡ numbersOf c
+          → Made calendar b bytes standing buffer
+          (record { answer = Accepted; sent = standing; book = c; numbers = after; buffer = buffer })
+      by-closing {calendar} e is own = made-of _ (by-open e calendar) refl is (writes-none standing buffer) own

@@ -17,7 +17,6 @@ use Rattle.book.specs.declared.Book.{Book}
 use Rattle.book.specs.Book.{filesOf, bookOf}
 use Rattle.book.specs.Calls.{Result, refusal}
 use Rattle.book_calls.specs.declared.files.FileReply.{FileReply}
-use Rattle.book_calls.specs.declared.files.Retired.{Retired}
 
 -- a record of kinds 3 to 9: the answer, the file and the notices are those of the one-premise rules
 pub record FileGiven (given : Given) (standing : ℕ) (p : FileReply) (before after : List ℕ) : Type 0 where
@@ -34,7 +33,3 @@ abbrev pub closing : Book → ℕ → File → Result
 closing b at f =
     cond (anyOf isOpen (held f)) (refusal OrderOpen b)
     (record { answer = Accepted; notices = []; book = bookOf (b .today) (removed at (filesOf b)) })
-
-pub record Retires (b : Book) (at : ℕ) (f : File) (p : Retired) : Type 0 where
-  pub answer : p .answer ≡ closing b at f .answer
-  pub book : p .book ≡ closing b at f .book

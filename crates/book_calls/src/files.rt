@@ -1,13 +1,9 @@
-// What a record does to the file of its premise: kinds 3 to 9 leave another file, and a retire takes the file out of the book.
+// What a record of kinds 3 to 9 does to the file of its premise.
 ghost use mathlib.Core.Option.{some};
-ghost use Prim.Native.Nat.{_<_};
 ghost use Rattle.records.specs.Records.{kindNewOrder};
 ghost use Rattle.premise.specs.OnePremise.{givenOn};
 ghost use Rattle.premise.specs.Promises.{OnFile};
-ghost use Rattle.premise.specs.WellKept.{Tidy};
-ghost use Rattle.book.specs.Laws.{TidyBook};
-ghost use Rattle.book_calls.specs.FileSteps.{FileGiven, Retires};
-use book::Book;
+ghost use Rattle.book_calls.specs.FileSteps.{FileGiven};
 use premise::Answer;
 use premise::File;
 use records::Record;
@@ -17,12 +13,6 @@ pub struct FileReply {
     pub answer: Answer,
     pub sent: usize,
     pub file: File,
-}
-
-// What a retire gives: the answer, and the book afterwards.
-pub struct Retired {
-    pub answer: Answer,
-    pub book: Book,
 }
 
 // A record of kinds 3 to 9 on its premise's file.
@@ -46,23 +36,5 @@ pub fn on_file(
         answer: answer,
         sent: p.sent,
         file: f,
-    }
-}
-
-// A retire of the premise whose file stands at a place: row 7, then the file leaves the book.
-pub fn retire(b: Book, at: usize, file: File) -> Retired
-    requires { ⌜ TidyBook b × (at < b .count) × Tidy file ⌝ }
-    ensures { λ p. ⌜ Retires b at file p ⌝ }
-{
-    if premise_file::any_open(file) {
-        return Retired {
-            answer: Answer::OrderOpen,
-            book: b,
-        };
-    }
-    let c = book_files::remove(b, at);
-    Retired {
-        answer: Answer::Accepted,
-        book: c,
     }
 }

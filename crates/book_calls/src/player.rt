@@ -79,7 +79,9 @@ pub fn play(
                     let at = place;
                     place += 1;
                     if premise_steps::mark_changes_file(business, day, end, f) {
-                        let m = premise_steps::mark(calendar, day, end, f, sent, notices);
+                        // read again: from one variable, into which the clock stores, every file that is asked would be copied
+                        let before = c.files[at];
+                        let m = premise_steps::mark(calendar, day, end, before, sent, notices);
                         let g = m.file;
                         c.files[at] = g;
                         sent = m.sent;
@@ -93,10 +95,12 @@ pub fn play(
             }
             Task::Closes(at) => {
                 let f = c.files[at];
-                let q = crate::files::retire(c, at, f);
-                last = q.answer;
-                c = q.book;
-                numbers = book_files::premises(c);
+                if premise_file::any_open(f) {
+                    last = Answer::OrderOpen;
+                } else {
+                    c = book_files::remove(c, at);
+                    numbers = book_files::premises(c);
+                }
             }
         }
         answers[played] = premise_rows::number_of(last);

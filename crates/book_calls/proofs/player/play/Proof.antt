@@ -2,7 +2,7 @@
 -- that are left is the rest of the whole; its measure is the answers that can still be noted. The inner loop's: the files before the one
 -- reached are marked; its measure is the files left. Assumes nothing.
 use Prim.Native.Nat.{_*_, _-_, _≤_, _<_}
-use mathlib.Core.Path.{refl}
+use mathlib.Core.Path.{refl, sym, _∙_}
 use mathlib.Core.Logic.{⊎-elim}
 use native.Mathlib.Omega.{arith}
 use lib.ListN.{length, take, drop}
@@ -12,7 +12,8 @@ use Rattle.book.specs.Calls.{noticeBytes}
 use Rattle.book_calls.proofs.Marking.{Marking, mark-none}
 use Rattle.book_calls.proofs.MarkTurns.{mark-place, mark-tidy, mark-room, mark-more, mark-still}
 use Rattle.book_calls.proofs.Ways.{Standing, Made, made-as, each-place, task-asks, by-refusal, held-place, held-asks, by-file}
-use Rattle.book_calls.proofs.Ways.{day-asks, by-marks, open-asks, by-opening, close-place, close-asks, by-closing}
+use Rattle.book_calls.proofs.Ways.{day-asks, by-marks, open-asks, by-opening, close-place, closed-tidy, close-asks}
+use Rattle.book_calls.proofs.Ways.{by-open-order, by-closing}
 use Rattle.book_calls.proofs.Playing.{Playing, playing-none, answers-length, counts-length, notices-length, sent-within, standing}
 use Rattle.book_calls.proofs.Playing.{sent-more, sent-few, playing-more, plays-most, plays-all, plays-room}
 use Rattle.book_calls.proofs.player.play.Statement.{statement}
@@ -86,7 +87,7 @@ mark-changes-file-requires c κs = let i = c .before in mark-tidy (i .before .lo
 
 mark-requires : tie.Need-mark-requires Inv-loop2 μ-loop2 Inv-loop μ-loop
 mark-requires c κs =
-    let i = c .before .before .before .before in
+    let i = c .before .before .before .before .before in
     let j = i .before in
     record {
       tidy = mark-tidy (j .loop2 .inv) (i .loop2-test .taken);
@@ -97,7 +98,7 @@ mark-requires c κs =
 loop2-again : tie.Need-loop2-again Inv-loop2 μ-loop2 Inv-loop μ-loop
 loop2-again c =
     let x = c .before .before .before in
-    let i = x .before .before .before .before .before in
+    let i = x .before .before .before .before .before .before in
     mark-more (i .before .loop2 .inv) (i .loop2-test .taken) (x .mark .result) (x .mark .ensures)
 
 loop2-again-2 : tie.Need-loop2-again-2 Inv-loop2 μ-loop2 Inv-loop μ-loop
@@ -121,13 +122,19 @@ close-at d =
     let k = d .before .before in
     close-place (stands (k .before .before .before .before)) _ (k .task-of .ensures) (d .task5 .given .1)
 
-retire-requires : tie.Need-retire-requires Inv-loop2 μ-loop2 Inv-loop μ-loop
-retire-requires c κs =
+any-open-requires : tie.Need-any-open-requires Inv-loop2 μ-loop2 Inv-loop μ-loop
+any-open-requires c κs =
     let d = c .before .before in
+    let k = d .before .before in
+    closed-tidy (stands (k .before .before .before .before)) _ (k .task-of .ensures) (d .task5 .given .1)
+
+remove-requires : tie.Need-remove-requires Inv-loop2 μ-loop2 Inv-loop μ-loop
+remove-requires c κs =
+    let d = c .before .before .before .before in
     let k = d .before .before in
     close-asks (stands (k .before .before .before .before)) _ (k .task-of .ensures) (d .task5 .given .1)
 
--- ---- its call is made, by one of the five ways
+-- ---- its call is made, by one of the six ways
 abbrev MadeAt : tie.At-match-came Inv-loop2 μ-loop2 Inv-loop μ-loop → Type 0
 MadeAt c =
     let m = c .before .before .before .before in
@@ -159,8 +166,11 @@ made c =
     (⊎-elim
     (λ x. made-as (λ i. record { answer = x .10 i; sent = x .9 i; book = x .7 i; numbers = x .8 i; buffer = x .6 i })
     (by-opening v _ (k .task-of .ensures) (x .1 .given .1) (x .3 .ensures) (x .4 .ensures) (x .5 .ensures)))
-    (λ x. made-as (λ i. record { answer = x .11 i; sent = x .10 i; book = x .8 i; numbers = x .9 i; buffer = x .7 i })
-    (by-closing v _ (k .task-of .ensures) (x .1 .given .1) (x .4 .result) (x .4 .ensures) (x .6 .ensures))))))
+    (⊎-elim
+    (λ x. made-as (λ i. record { answer = x .10 i; sent = x .9 i; book = x .7 i; numbers = x .8 i; buffer = x .6 i })
+    (by-open-order v _ (k .task-of .ensures) (x .1 .given .1) (sym (x .4 .ensures) ∙ x .5 .taken)))
+    (λ x. made-as (λ i. record { answer = x .12 i; sent = x .11 i; book = x .9 i; numbers = x .10 i; buffer = x .8 i })
+    (by-closing v _ (k .task-of .ensures) (x .1 .given .1) (sym (x .4 .ensures) ∙ x .5 .left) (x .6 .ensures) (x .7 .ensures)))))))
     (c .match .came)
 
 -- ---- it is noted
@@ -238,10 +248,12 @@ play-spec =
     (λ c. omega (arith, marks-within c))
     (λ c. omega (arith, marks-within (c .before)))
     mark-changes-file-requires
+    (λ c. omega (arith, marks-within (c .before .before .before)))
+    (λ c. omega (arith, marks-within (c .before .before .before)))
     mark-requires
-    (λ c. omega (arith, marks-within (c .before .before .before .before .before .before .before .before)))
-    (λ c. omega (arith, marks-within (c .before .before .before .before .before .before .before .before)))
-    (λ c. omega (arith, c .before .before .before .before .before .before .before .before .loop2-test .taken))
+    (λ c. omega (arith, marks-within (c .before .before .before .before .before .before .before .before .before)))
+    (λ c. omega (arith, marks-within (c .before .before .before .before .before .before .before .before .before)))
+    (λ c. omega (arith, c .before .before .before .before .before .before .before .before .before .loop2-test .taken))
     loop2-again
     (λ c. omega (arith, c .before .before .before .loop2-test .taken))
     loop2-again-2
@@ -252,7 +264,8 @@ play-spec =
     (λ c. c .match .keys5)
     (λ c. omega (arith, close-at (c .before)))
     (λ c. omega (arith, close-at (c .before)))
-    retire-requires
+    any-open-requires
+    remove-requires
     (λ c κs. tt)
     (λ c κs. tt)
     (λ c. c .before .before .before .before .before .before .before .before .loop-test .taken)

@@ -26,7 +26,7 @@ pub fn wind(
     let mut sent = standing;
     let mut i: usize = 0;
     while i < n {
-        let o = file.orders[i];
+        let o = out.orders[i];
         let at = i;
         i += 1;
         if crate::changes::clock_changes_order(business, today, o) {

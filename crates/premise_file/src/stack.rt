@@ -89,7 +89,7 @@ fn replace_oldest(file: File, at: usize, order: Order) -> File
     let mut f = file;
     let mut i = at;
     while i < LAST_PLACE {
-        let o = file.orders[i + 1];
+        let o = f.orders[i + 1];
         f.orders[i] = o;
         i += 1;
     }

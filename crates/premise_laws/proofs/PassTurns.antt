@@ -6,7 +6,7 @@ use native.Mathlib.Numerals.{add-one}
 use native.Mathlib.Omega.{arith}
 use lib.ListN.{take, drop, length, getD, set, replicate, take-append-drop, length-take}
 use lib.Seq.{take-all, take-suc, drop-at, getD-take}
-use Rattle.lists.proofs.Over.{next-stays, next-stored}
+use Rattle.lists.proofs.Over.{next-at, next-stays, next-stored}
 use Rattle.records.specs.declared.Notice.{Notice}
 use Rattle.premise.specs.declared.Order.{Order}
 use Rattle.premise.specs.declared.File.{File}
@@ -70,6 +70,10 @@ module _ {step : ℕ → Order → Change} {file : File} {standing : ℕ} {b : L
     done-length : length done ≡ i
     done-length = length-pass step 0 (take i (held file)) ∙ omega (arith, at-place)
 
+    -- it is still as it was
+    sofar-next : getD (out .orders) i blank ≡ getD (file .orders) i blank
+    sofar-next = ap (λ (x : File). getD (x .orders) i blank) (s .here) ∙ next-at blank done (file .orders) i done-length inside
+
     -- with it the first i + 1 orders
     held-more : take (i + 1) (held file) ≡ take i (held file) ++ (o ∷ [])
     held-more =
@@ -132,6 +136,18 @@ module _ {step : ℕ → Order → Change} {file : File} {standing : ℕ} {b : L
           wrote = subst⁻¹ (λ (l : List Notice). Writes standing b c sent l)
               (told-more ∙ ap (λ (x : Change). told ++ x .notices) e ∙ append-nil told) (s .wrote);
         }
+
+    -- the same by the order as it stands in the file that is stored into
+    pub next-room : Room sent (step i (getD (out .orders) i blank) .notices) c
+    next-room = subst⁻¹ (λ (x : Order). Room sent (step i x .notices) c) sofar-next sofar-room
+
+    pub next-turn : (r : OrderAfter) {d : List ℕ} → DoneToOrder (step i (getD (out .orders) i blank)) sent r c d
+        → Sofar step file standing b (i + 1) (r .sent) (withPlaces out (out .count) (set (out .orders) i (r .order))) d
+    next-turn r {d} did = sofar-turn r (subst (λ (x : Order). DoneToOrder (step i x) sent r c d) sofar-next did)
+
+    pub next-leaves : step i (getD (out .orders) i blank) ≡ same (getD (out .orders) i blank)
+        → Sofar step file standing b (i + 1) sent out c
+    next-leaves e = sofar-leaves (subst (λ (x : Order). step i x ≡ same x) sofar-next e)
 
   -- ---- none is left: the pass is done
   pub sofar-all : file .count ≤ i → DoneToFile (onFile file (pass step (held file))) standing (record { file = out; sent = sent }) b c

@@ -7,7 +7,7 @@ use lib.ListN.{take, length, getD, set, length-append}
 use lib.Seq.{getD-at}
 use Rattle.lists.specs.Shift.{removed}
 use Rattle.lists.proofs.Find.{drop-none}
-use Rattle.lists.proofs.Over.{over, over-start, over-end, over-set}
+use Rattle.lists.proofs.Over.{over, over-start, over-end, over-at, over-set}
 use Rattle.lists.proofs.Shift.{removed-length, removed-take, removed-next}
 use Rattle.premise.specs.declared.Order.{Order}
 use Rattle.premise.specs.declared.File.{File}
@@ -61,10 +61,14 @@ module _ (f : File) (tidy : Tidy f) (full : f .count ≡ mostOrders) (at : ℕ) 
       ∙ ap (withPlaces f (f .count))
       (over-set blank (shifted f at o) (f .orders) i (omega (arith, length-orders f tidy)) (omega (arith, shifted-length)))
 
-  -- a turn stores the next place's order
+  -- a turn stores the next place's order, which is still as it was
   pub shift-next : (g : File) (i : ℕ) → at ≤ i → i < 7 → g ≡ stored f at o i
-      → withPlaces g (g .count) (set (g .orders) i (getD (f .orders) (i + 1) blank)) ≡ stored f at o (i + 1)
-  shift-next g i h k s = step g i (getD (f .orders) (i + 1) blank) (omega arith) (moved i h k) s
+      → withPlaces g (g .count) (set (g .orders) i (getD (g .orders) (i + 1) blank)) ≡ stored f at o (i + 1)
+  shift-next g i h k s =
+      let still : getD (g .orders) (i + 1) blank ≡ getD (f .orders) (i + 1) blank =
+      ap (λ (x : File). getD (x .orders) (i + 1) blank) s
+      ∙ over-at blank (shifted f at o) (f .orders) i (i + 1) (omega arith) (omega (arith, shifted-length)) in
+      step g i (getD (g .orders) (i + 1) blank) (omega arith) (still ∙ moved i h k) s
 
   -- the last place takes the new order
   pub shift-end : (g : File) (i : ℕ) → i ≡ 7 → g ≡ stored f at o i

@@ -9,15 +9,15 @@ use Rattle.premise_file.proofs.stack.replace_oldest.Statement.{statemen
 use Rattle.premise_file.proofs.stack.replace_oldest.Tie as tie
 
 abbrev Inv-loop : tie.InvT-loop
-Inv-loop at order file f₀ i₀ f i = (at ≤ i) × (i ≤ 7) × (f ≡ stored file at order i)
+Inv-loop at order f₀ i₀ f i = (at ≤ i) × (i ≤ 7) × (f ≡ stored f₀ at order i)
 
 abbrev μ-loop : tie.MeasureT-loop
-μ-loop at order file f₀ i₀ f i = 7 - i
+μ-loop at order f₀ i₀ f i = 7 - i
 
 loop-holds : tie.Need-loop-holds Inv-loop μ-loop
 loop-holds c =
     let a = c .args in
-    (omega arith, omega (arith, c .pre .2), shift-start (a .t1) (c .pre .0) (c .pre .1) (a .at) (c .pre .2) (a .order))
+    (omega arith, omega (arith, c .pre .2), shift-start (a .file) (c .pre .0) (c .pre .1) (a .at) (c .pre .2) (a .order))
 
 add-o : tie.Need-add-o Inv-loop μ-loop
 add-o c = search needs
@@ -48,7 +48,7 @@ loop-again c =
     let v = l .loop .inv in (
       omega (arith, v .0),
       omega arith,
-      shift-next (a .t1) (s .pre .0) (s .pre .1) (a .at) (s .pre .2) (a .order) (l .loop .f) (l .loop .i)
+      shift-next (a .file) (s .pre .0) (s .pre .1) (a .at) (s .pre .2) (a .order) (l .loop .f) (l .loop .i)
           (v .0) (omega arith) (v .2),
     )
 
@@ -61,7 +61,7 @@ returns c =
     let s = l .before in
     let a = s .args in
     let v = l .loop .inv in
-    shift-end (a .t1) (s .pre .0) (s .pre .1) (a .at) (s .pre .2) (a .order) (l .loop .f) (l .loop .i) (omega arith) (v .2)
+    shift-end (a .file) (s .pre .0) (s .pre .1) (a .at) (s .pre .2) (a .order) (l .loop .f) (l .loop .i) (omega arith) (v .2)
 
 pub replace-oldest-spec : {M : Type 1} → statement M
 replace-oldest-spec =

@@ -48,11 +48,11 @@ last-more answer [] x = refl
 last-more answer (y ∷ ys) x = last-more (y .answer) ys x
 
 -- ---- a number more noted
-noted-length : (numbers before after : List ℕ) → Noted numbers before after → length numbers ≤ length before → length after ≡ length before
+pub noted-length : (numbers before after : List ℕ) → Noted numbers before after → length numbers ≤ length before → length after ≡ length before
 noted-length numbers before after e h =
     ap length e ∙ length-append numbers (drop (length numbers) before) ∙ omega (arith, length-drop (length numbers) before, h)
 
-noted-more : (numbers before after : List ℕ) (i n : ℕ) → Noted numbers before after → length numbers ≡ i → i < length before
+pub noted-more : (numbers before after : List ℕ) (i n : ℕ) → Noted numbers before after → length numbers ≡ i → i < length before
     → Noted (numbers ++ (n ∷ [])) before (set after i n)
 noted-more numbers before after i n e long h =
     let many : i + 1 ≡ length (numbers ++ (n ∷ [])) = omega (arith, long, length-append numbers (n ∷ [])) in
@@ -61,7 +61,7 @@ noted-more numbers before after i n e long h =
     ∙ ap (λ (k : ℕ). (numbers ++ (n ∷ [])) ++ drop k before) many
 
 -- ---- the tape after a record
-dropped : (tape : List ℕ) (from to : ℕ) → to ≡ min (from + recordLength) (length tape) → drop recordLength (drop from tape) ≡ drop to tape
+pub dropped : (tape : List ℕ) (from to : ℕ) → to ≡ min (from + recordLength) (length tape) → drop recordLength (drop from tape) ≡ drop to tape
 dropped tape from to ends = drop-drop recordLength from tape ∙ go (leb (from + recordLength) (length tape)) refl
   where
     go : (inside : Bool) → leb (from + recordLength) (length tape) ≡ inside → drop (from + recordLength) tape ≡ drop to tape

@@ -8,3 +8,4 @@ mod player;
 pub use calls::fresh;
 pub use calls::record_call;
 pub use player::play;
+pub use player::record_end;

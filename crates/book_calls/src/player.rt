@@ -11,7 +11,7 @@ use book::Playback;
 use premise::Answer;
 
 // Where a record ends that starts before a tape's end: the last may be short.
-fn record_end(from: usize, length: usize) -> usize
+pub fn record_end(from: usize, length: usize) -> usize
     requires { ⌜ from < length ⌝ }
     ensures { λ r. ⌜ r ≡ min (from + recordLength) length ⌝ }
 {

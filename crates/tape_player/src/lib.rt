@@ -3,4 +3,8 @@ mod ending;
 mod player;
 mod stretch_text;
 
+pub use ending::close;
+pub use player::least;
 pub use player::play_on;
+pub use stretch_text::Told;
+pub use stretch_text::put_stretch;

@@ -1,2 +1,4 @@
 pub mod Calling
+pub mod CallsAreRow
 pub mod OneMore
+pub mod Stretches

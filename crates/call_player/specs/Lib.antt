@@ -1,1 +1,2 @@
+pub mod CallsAreRow
 pub mod CallsMade

@@ -1,4 +1,4 @@
--- `tape::begins_as_text` meets its contract, by its length and what each of the four tests says. Assumes nothing.
+-- `begins_as_text` meets its contract, by its length and what each of the four tests says. Assumes nothing.
 use Prim.Native.Nat.{ℕ, _<_, _≤_}
 use mathlib.Core.Path.{_≡_, refl}
 use mathlib.Core.Bool.{Bool, false, _&&_}
@@ -6,9 +6,9 @@ use mathlib.Core.List.{List}
 use lib.ListN.{length}
 use borrow.Author.Needs.{needs}
 use borrow.Author.Tests.{lt-leb, le-leb}
-use Rattle.tape.specs.Advice.{characterAt, beginsAsText}
-use Rattle.tape.proofs.begins_as_text.Statement.{statement}
-use Rattle.tape.proofs.begins_as_text.Tie as tie
+use Rattle.tape_io.specs.Advice.{characterAt, beginsAsText}
+use Rattle.tape_io.proofs.program.begins_as_text.Statement.{statement}
+use Rattle.tape_io.proofs.program.begins_as_text.Tie as tie
 
 module _ (tape : List ℕ) where
   too-short : length tape < 4 → false ≡ beginsAsText tape

@@ -17,13 +17,14 @@ use Rattle.records.specs.Layout.{recordLength}
 use Rattle.records.specs.Records.{kindNewOrder, kindDayMark}
 use Rattle.records.proofs.Readings.{says}
 use Rattle.premise.specs.declared.File.{File}
+use Rattle.premise.specs.declared.PremiseAfter.{PremiseAfter}
 use Rattle.premise.specs.declared.Answer.{Answer}
 use Rattle.premise.specs.declared.Answer.the-variants.{Accepted, OrderOpen}
 use Rattle.premise.specs.Orders.{isOpen, held}
 use Rattle.premise.specs.Steps.{newFile}
 use Rattle.premise.specs.WellKept.{Tidy, FileKept}
 use Rattle.premise.specs.OnePremise.{givenOn}
-use Rattle.premise.specs.Promises.{Writes, OnFile}
+use Rattle.premise.specs.Promises.{Writes, OnFile, Answered}
 use Rattle.premise_laws.proofs.Few.{step-few}
 use Rattle.premise_laws.proofs.Writes.{writes-none}
 use Rattle.book.specs.declared.Book.{Book}
@@ -39,8 +40,6 @@ use Rattle.book_files.proofs.Tidy.{past, length-files}
 use Rattle.book_calls.specs.declared.dispatch.Task.{Task}
 use Rattle.book_calls.specs.declared.dispatch.Task.the-variants.{Refused, Opens, Closes, NextDay}
 use Rattle.book_calls.specs.declared.dispatch.Task.the-variants as variant
-use Rattle.book_calls.specs.declared.files.FileReply.{FileReply}
-use Rattle.book_calls.specs.FileSteps.{FileGiven}
 use Rattle.book_calls.specs.Tasks.{taskOf, Known, KnownOpens, KnownCloses, KnownHeld}
 use Rattle.book_calls.proofs.Marking.{Asked, Marking, dated, mark-asks, mark-book, mark-wrote}
 use Rattle.book_calls.proofs.Tasks.{task-known}
@@ -139,8 +138,8 @@ module _ {b : Book} {numbers : List ℕ} {standing : ℕ} {buffer : List ℕ} (t
             );
           }
 
-      pub by-file : {calendar : List ℕ} (p : FileReply) {after : List ℕ}
-          → FileGiven (givenOn calendar (b .today) (some (getD (b .files) at past)) r) standing p buffer after
+      pub by-file : {calendar : List ℕ} (p : PremiseAfter) {after : List ℕ}
+          → Answered (givenOn calendar (b .today) (some (getD (b .files) at past)) r) standing p buffer after
           → Made calendar b bytes standing buffer
           (record { answer = p .answer; sent = p .sent; book = withFileAt b at (p .file); numbers = numbers; buffer = after })
       by-file {calendar} p gives =

@@ -1,22 +1,26 @@
 -- What is to be done with a record, by its bytes, T and the premise numbers of a book's places, and what is known then.
 use Prim.Native.Nat.{ℕ, _+_, _≤_, _<_}
 use mathlib.Core.Path.{_≡_}
-use mathlib.Core.List.{List}
+use mathlib.Core.List.{List, []}
 use mathlib.Core.Bool.{cond}
 use lib.Dec.{eqb}
 use lib.ListN.{take, getD}
+use Rattle.lists.specs.Search.{anyOf}
+use Rattle.lists.specs.Shift.{inserted, removed}
 use Rattle.records.specs.declared.Record.{Record}
 use Rattle.records.specs.declared.Reading.{Reading}
 use Rattle.records.specs.declared.Reading.the-variants.{Malformed, Says}
 use Rattle.records.specs.Records.{reading, kindCreate, kindRetire}
 use Rattle.premise.specs.declared.File.{File}
 use Rattle.premise.specs.declared.Answer.{Answer}
-use Rattle.premise.specs.declared.Answer.the-variants.{MalformedRecord, NoSuchPremise, PremiseHeld, BookFull, NotNextDay}
-use Rattle.premise.specs.Steps.{is}
+use Rattle.premise.specs.declared.Answer.the-variants.{Accepted, MalformedRecord, NoSuchPremise, PremiseHeld, BookFull, OrderOpen}
+use Rattle.premise.specs.declared.Answer.the-variants.{NotNextDay}
+use Rattle.premise.specs.Orders.{isOpen, held}
+use Rattle.premise.specs.Steps.{is, newFile}
 use Rattle.premise.specs.Refusals.{needsPremise}
 use Rattle.book.specs.declared.Book.{Book}
-use Rattle.book.specs.Book.{mostFiles}
-use Rattle.book.specs.Calls.{refusal, markedBook}
+use Rattle.book.specs.Book.{mostFiles, filesOf, bookOf}
+use Rattle.book.specs.Calls.{Result, refusal, markedBook}
 use Rattle.book.specs.CallsInRow.{called}
 use Rattle.book.specs.Laws.{OnHeld}
 use Rattle.book_files.specs.declared.premise_numbers.Place.{Place}
@@ -24,7 +28,6 @@ use Rattle.book_files.specs.declared.premise_numbers.Place.the-variants.{Held, 
 use Rattle.book_files.specs.Numbers.{placeOfPremise}
 use Rattle.book_calls.specs.declared.dispatch.Task.{Task}
 use Rattle.book_calls.specs.declared.dispatch.Task.the-variants.{Refused, Opens, Closes, OnFile, NextDay}
-use Rattle.book_calls.specs.FileSteps.{opening, closing}
 
 -- ---- what is to be done
 -- a create: rows 5 and 6
@@ -57,6 +60,16 @@ unfoldable pub taskOf : List ℕ → ℕ → List ℕ → ℕ → Task
 taskOf bytes today premises count = taskIn today (take count premises) count (reading bytes)
 
 -- ---- what is known then of a record on a book, by the premise numbers of its places
+-- a create: a new file stands at the place
+abbrev pub opening : Book → ℕ → Record → Result
+opening b at r = record { answer = Accepted; notices = []; book = bookOf (b .today) (inserted at (newFile r) (filesOf b)) }
+
+-- a retire of the file that stands at a place: row 7, then it leaves
+abbrev pub closing : Book → ℕ → File → Result
+closing b at f =
+    cond (anyOf isOpen (held f)) (refusal OrderOpen b)
+    (record { answer = Accepted; notices = []; book = bookOf (b .today) (removed at (filesOf b)) })
+
 -- it is refused
 pub record KnownRefused (bytes : List ℕ) (b : Book) (answer : Answer) : Type 0 where
   pub result : (calendar : List ℕ) → called calendar b bytes ≡ refusal answer b

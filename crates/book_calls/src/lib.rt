@@ -2,7 +2,6 @@
 // on a book that is known to be well kept. The first two ask nothing of their caller: every book, record, calendar and buffer is answered.
 mod calls;
 mod dispatch;
-mod files;
 mod player;
 
 pub use calls::fresh;

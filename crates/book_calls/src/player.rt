@@ -63,7 +63,7 @@ pub fn play(
             }
             Task::OnFile(at, r) => {
                 let f = c.files[at];
-                let p = crate::files::on_file(calendar, c.today, f, r, standing, notices);
+                let p = premise_steps::on_file(calendar, c.today, f, r, standing, notices);
                 let g = p.file;
                 c.files[at] = g;
                 last = p.answer;

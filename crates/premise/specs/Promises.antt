@@ -2,8 +2,7 @@
 use Prim.Native.Nat.{ℕ, _+_, _*_, _≤_}
 use mathlib.Core.Path.{_≡_}
 use mathlib.Core.List.{List, _++_}
-use mathlib.Core.Option.{Option, none, some}
-use mathlib.Core.Bool.{true, false}
+use mathlib.Core.Option.{some}
 use lib.ListN.{length, take, drop}
 use Rattle.days.specs.Window.{windowWidth, LastInWindow}
 use Rattle.records.specs.declared.Record.{Record}
@@ -12,11 +11,9 @@ use Rattle.records.specs.Layout.{recordLength}
 use Rattle.records.specs.Notices.{encodeAll}
 use Rattle.records.specs.Records.{kindReply}
 use Rattle.premise.specs.declared.File.{File}
-use Rattle.premise.specs.declared.FileOrNone.{FileOrNone}
 use Rattle.premise.specs.declared.OrderAfter.{OrderAfter}
 use Rattle.premise.specs.declared.FileAfter.{FileAfter}
 use Rattle.premise.specs.declared.PremiseAfter.{PremiseAfter}
-use Rattle.premise.specs.Orders.{blankFile}
 use Rattle.premise.specs.Passes.{Change, Effect}
 use Rattle.premise.specs.OnePremise.{Given, givenOn}
 use Rattle.premise.specs.WellKept.{Tidy}
@@ -40,15 +37,10 @@ pub record DoneToFile (effect : Effect) (standing : ℕ) (r : FileAfter) (before
   pub file : r .file ≡ effect .file
   pub wrote : Writes standing before after (r .sent) (effect .notices)
 
--- a file or none, as the struct has it
-abbrev pub asStruct : Option File → FileOrNone
-asStruct none = record { held = false; file = blankFile }
-asStruct (some f) = record { held = true; file = f }
-
--- a record on a file or none
+-- a record that leaves its premise's file
 pub record Answered (given : Given) (standing : ℕ) (r : PremiseAfter) (before after : List ℕ) : Type 0 where
   pub answer : r .answer ≡ given .answer
-  pub file : r .after ≡ asStruct (given .state .file)
+  pub file : some (r .file) ≡ given .state .file
   pub wrote : Writes standing before after (r .sent) (given .notices)
 
 -- ---- what they ask besides

@@ -62,12 +62,6 @@ pub struct File {
     pub orders: [Order; 8],
 }
 
-// A file or none: where there is none, `file` is zero in every field.
-pub struct FileOrNone {
-    pub held: bool,
-    pub file: File,
-}
-
 // What a call answers: a name for each row of document 01's table of refusals, and one for acceptance.
 pub enum Answer {
     Accepted,
@@ -100,9 +94,9 @@ pub struct FileAfter {
     pub sent: usize,
 }
 
-// What a record on a file or none gives: the answer, how many notices stand in the buffer, and the file or none afterwards.
+// What a record that leaves its premise's file gives: the answer, how many notices stand in the buffer, and the file afterwards.
 pub struct PremiseAfter {
     pub answer: Answer,
     pub sent: usize,
-    pub after: FileOrNone,
+    pub file: File,
 }

@@ -7,9 +7,9 @@ use Rattle.premise.specs.declared.Answer.{Answer}
 use Rattle.premise.specs.declared.PremiseAfter.{PremiseAfter}
 use Rattle.premise.specs.Refusals.{number}
 
--- an answer about a file that is held afterwards
+-- an answer about a file, which is held afterwards
 abbrev pub replying : Answer → File → ℕ → PremiseAfter
-replying answer file sent = record { answer = answer; sent = sent; after = record { held = true; file = file } }
+replying answer file sent = record { answer = answer; sent = sent; file = file }
 
 -- whether an answer refuses: any but 0
 abbrev pub isRefusal : Answer → Bool

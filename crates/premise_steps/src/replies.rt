@@ -3,7 +3,6 @@ ghost use mathlib.Core.Path.{_≡_};
 ghost use Rattle.premise_steps.specs.Answering.{replying, isRefusal};
 use premise::Answer;
 use premise::File;
-use premise::FileOrNone;
 use premise::PremiseAfter;
 
 // An answer about a file: the file as it is then, and how many notices stand in the buffer. A refusal gives the file and the number as
@@ -11,14 +10,10 @@ use premise::PremiseAfter;
 pub fn reply(answer: Answer, file: File, sent: usize) -> PremiseAfter
     ensures { λ p. ⌜ p ≡ replying answer file sent ⌝ }
 {
-    let after = FileOrNone {
-        held: true,
-        file: file,
-    };
     PremiseAfter {
         answer: answer,
         sent: sent,
-        after: after,
+        file: file,
     }
 }
 

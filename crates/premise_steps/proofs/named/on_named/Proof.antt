@@ -1,9 +1,7 @@
 -- `on_named` meets its contract: whether an order has the reference picks the case. Assumes nothing.
 use mathlib.Core.Path.{sym, _∙_}
-use mathlib.Core.Option.{some}
 use borrow.Author.Needs.{needs}
 use Rattle.premise.specs.declared.Answer.the-variants.{NoSuchOrder}
-use Rattle.premise_steps.proofs.replies.Decided.{on}
 use Rattle.premise_steps.proofs.replies.Answered.{answered-quiet}
 use Rattle.premise_steps.proofs.named.ByAnswer.{named-missing}
 use Rattle.premise_steps.proofs.named.on_named.Statement.{statement}
@@ -34,7 +32,7 @@ returns c =
     let w = n .before .before in
     let s = w .before .before .before in
     let a = s .args in
-    answered-quiet _ (a .standing) (a .buffer .now) NoSuchOrder (on (a .today) (some (a .file))) (c .reply .result)
+    answered-quiet _ (a .standing) (a .buffer .now) NoSuchOrder (a .today) (a .file) (c .reply .result)
     (named-missing (a .calendar .now) (a .today) (a .file) (a .r) (s .pre .from) (s .pre .upto)
     (sym (w .find .ensures) ∙ n .enum-told .given .1))
     (c .reply .ensures)

@@ -1,12 +1,10 @@
 -- `on_order` meets its contract: a record is refused by the first of its rows that holds, and else accepted. Assumes
 -- nothing.
 use mathlib.Core.Path.{sym, _∙_}
-use mathlib.Core.Option.{some}
 use lib.Dec.{eqb}
 use borrow.Author.Needs.{needs}
 use Rattle.premise.specs.declared.Order.{Order}
 use Rattle.premise_laws.proofs.FileOrders.{place-held}
-use Rattle.premise_steps.proofs.replies.Decided.{on}
 use Rattle.premise_steps.proofs.replies.Answered.{answered-quiet, room-leaving, answered-done}
 use Rattle.premise_steps.proofs.named.ByAnswer.{named-refused, named-done}
 use Rattle.premise_steps.proofs.named.on_order.Statement.{statement}
@@ -31,7 +29,7 @@ returns c =
     let v = h .before in
     let s = v .before .before .before in
     let a = s .args in
-    answered-quiet _ (a .standing) (a .buffer .now) (v .named-answer .result) (on (a .today) (some (a .file))) (c .reply .result)
+    answered-quiet _ (a .standing) (a .buffer .now) (v .named-answer .result) (a .today) (a .file) (c .reply .result)
     (named-refused (a .calendar .now) (a .today) (a .file) (a .r) (s .pre .0 .from) (s .pre .0 .upto) (a .i) (s .pre .1)
     (v .named-answer .result)
     (v .named-answer .ensures) (sym (h .is-refusal .ensures) ∙ k .if1 .taken))

@@ -1,10 +1,8 @@
 -- `on_new_order` meets its contract: a new order is refused by the first of its rows that holds, and else accepted.
 -- Assumes nothing.
 use mathlib.Core.Path.{sym, _∙_}
-use mathlib.Core.Option.{some}
 use borrow.Author.Needs.{needs}
 use borrow.Author.Tests.{eqb-true}
-use Rattle.premise_steps.proofs.replies.Decided.{on}
 use Rattle.premise_steps.proofs.replies.Answered.{answered-quiet, room-leaving, answered-done}
 use Rattle.premise_steps.proofs.new_order.ByAnswer.{order-refused, order-done, order-free}
 use Rattle.premise_steps.proofs.new_order.on_new_order.Statement.{statement}
@@ -30,7 +28,7 @@ returns c =
     let d = v .before in
     let s = d .before .before .before in
     let a = s .args in
-    answered-quiet _ (a .standing) (a .buffer .now) (v .new-order-answer .result) (on (a .today) (some (a .file))) (c .reply .result)
+    answered-quiet _ (a .standing) (a .buffer .now) (v .new-order-answer .result) (a .today) (a .file) (c .reply .result)
     (order-refused (a .calendar .now) (a .today) (a .file) (a .r) (s .pre .1) (d .requested-day .result)
     (d .requested-day .ensures) (v .new-order-answer .result) (v .new-order-answer .ensures)
     (sym (h .is-refusal .ensures) ∙ k .if1 .taken))

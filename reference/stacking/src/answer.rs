@@ -1,4 +1,4 @@
-//! The answer to a record: the rows of document 01's table, by name.
+//! The answer to a record: the rows of document 01's table and document 02's, by name.
 
 /// 0 for a record that is taken, else the number of the first row it meets.
 #[derive(Clone, Copy, Debug, PartialEq, Eq)]
@@ -29,11 +29,13 @@ pub enum Answer {
     /// The order's status or kind does not take this record.
     NotTaken = 14,
     NotTheNextDay = 15,
+    /// The new order's retailer has 4 or more open orders at the premise.
+    FourOpenOrdersOfRetailer = 26,
 }
 
 impl Answer {
     /// Every answer, in the order of its number.
-    pub const ALL: [Answer; 16] = [
+    pub const ALL: [Answer; 17] = [
         Answer::Accepted,
         Answer::BufferTooShort,
         Answer::BookNotWellKept,
@@ -50,9 +52,10 @@ impl Answer {
         Answer::NoSuchOrder,
         Answer::NotTaken,
         Answer::NotTheNextDay,
+        Answer::FourOpenOrdersOfRetailer,
     ];
 
-    /// The document's number.
+    /// The documents' number.
     pub fn number(self) -> u8 {
         self as u8
     }

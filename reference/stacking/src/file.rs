@@ -5,6 +5,9 @@ use crate::order::Order;
 /// A file holds up to this many orders.
 pub const ORDERS_A_FILE: usize = 8;
 
+/// A retailer with this many open orders in a file gets no further one (02, change 12).
+pub const OPEN_ORDERS_A_RETAILER: usize = 4;
+
 /// R of a premise without a retailer.
 pub const DE_ENERGIZED: u32 = 0;
 
@@ -62,6 +65,14 @@ impl File {
 
     pub fn has_open_order(&self) -> bool {
         self.held().iter().any(Order::is_open)
+    }
+
+    /// How many open orders has this retailer submitted, or gains by, here?
+    pub fn open_orders_of(&self, retailer: u32) -> usize {
+        self.held()
+            .iter()
+            .filter(|order| order.is_open() && order.retailer == retailer)
+            .count()
     }
 
     /// Do open orders take all places, so that none can be dropped?

@@ -1,8 +1,8 @@
 //! The stacking book: who supplies which flat in the Texas retail electricity
 //! market, kept from one tape of 24-byte records for many premises.
 //!
-//! This is the second program. It is written from document 01 alone and is
-//! what the proved program is tested and measured against. Three layers, each
+//! This is the second program. It is written from documents 01 and 02 alone and
+//! is what the proved program is tested and measured against. Three layers, each
 //! using only the one below: days ([`days`]), one premise ([`premise`] and what
 //! it is made of), the book ([`book`]).
 

@@ -7,7 +7,7 @@ use crate::answer::Answer;
 use crate::clock;
 use crate::days::{is_business_day, is_day, switch_date, BusinessDays, CalendarDays, NO_DAY};
 use crate::evaluation;
-use crate::file::{File, DE_ENERGIZED};
+use crate::file::{File, DE_ENERGIZED, OPEN_ORDERS_A_RETAILER};
 use crate::first_in::not_first_in;
 use crate::notice::{Code, NoticeWriter, TDSP};
 use crate::order::{kind, status, Order};
@@ -24,7 +24,7 @@ pub fn may_retire(file: &File) -> Result<(), Answer> {
     refuse_if(file.has_open_order(), Answer::OpenOrderHeld)
 }
 
-/// Record kinds 3 to 9: rows 8 to 14, the record's step and, if it is accepted,
+/// Record kinds 3 to 9: rows 8 to 14 and 26, the record's step and, if it is accepted,
 /// the file's evaluation.
 pub fn order_record(
     file: &mut File,
@@ -52,7 +52,7 @@ pub fn order_step(
     }
 }
 
-/// Record kind 3, rows 8 to 12 and then the step.
+/// Record kind 3, rows 8 to 11, 26 and 12, and then the step.
 fn new_order(
     file: &mut File,
     calendar: &[u8],
@@ -70,7 +70,7 @@ fn new_order(
     Ok(())
 }
 
-/// The order that the file will hold, if rows 8 to 12 let it in.
+/// The order that the file will hold, if rows 8 to 11, 26 and 12 let it in.
 fn admit(file: &File, calendar: &[u8], today: u16, new: &NewOrder) -> Result<Order, Answer> {
     refuse_if(
         file.place_of(new.reference).is_some(),
@@ -80,6 +80,10 @@ fn admit(file: &File, calendar: &[u8], today: u16, new: &NewOrder) -> Result<Ord
     refuse_if(
         not_first_in(file.held(), new.kind, requested_day),
         Answer::NotFirstIn,
+    )?;
+    refuse_if(
+        file.open_orders_of(new.retailer) >= OPEN_ORDERS_A_RETAILER,
+        Answer::FourOpenOrdersOfRetailer,
     )?;
     refuse_if(file.is_full_of_open_orders(), Answer::EightOpenOrders)?;
     Ok(Order {

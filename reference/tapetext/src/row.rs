@@ -1,4 +1,4 @@
-//! The rows of document 01's table in words. A new row is one more here.
+//! The rows of document 01's table and document 02's in words. A new row is one more here.
 
 use crate::form::{Field, DAY, PREMISE, REFERENCE, RETAILER};
 
@@ -38,6 +38,7 @@ pub(crate) const ROWS: &[Row] = &[
     row(13, "there is no such reference, or on a cancel the order is another retailer's", &[RETAILER]),
     row(14, "its status or kind does not take this record", &[]),
     row(15, "the day is not the one after today", &[DAY]),
+    row(26, "its retailer has 4 or more open orders at the premise", &[RETAILER]),
 ];
 
 #[cfg(test)]

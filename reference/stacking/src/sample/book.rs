@@ -32,15 +32,19 @@ fn well_kept_file(random: &mut Random, today: u16, premise: u64) -> File {
     let mut file = File::new(premise, retailer, some_day(random, today));
     file.order_count = random.pick(&[0, 1, 2, 3, 5, 7, 8, 8]);
     let first_reference = random.pick(&[1, 5, u32::MAX - ORDERS_A_FILE as u32]);
+    // now and then one retailer has more than its share, as no tape leads to
+    let one_retailer = random.chance(1, 6).then(|| order_retailer(random));
     let one_status = random.chance(1, 4).then(|| random.from_to(1, 7) as u8);
     for (place, order) in file.held_mut().iter_mut().enumerate() {
         let status = one_status.unwrap_or_else(|| random.pick(&[1, 2, 3, 3, 3, 4, 4, 5, 6, 7]));
         *order = well_kept_order(random, today, status);
         order.reference = first_reference + place as u32;
+        order.retailer = one_retailer.unwrap_or_else(|| order_retailer(random));
     }
     file
 }
 
+/// Its reference and its retailer are the file's to say.
 fn well_kept_order(random: &mut Random, today: u16, status: u8) -> Order {
     let kind = match status {
         status::PERMIT_PENDING => kind::MOVE_IN,
@@ -49,7 +53,7 @@ fn well_kept_order(random: &mut Random, today: u16, status: u8) -> Order {
     let day = some_day(random, today);
     Order {
         reference: 0,
-        retailer: random.pick(&[101, 202, 303, LARGEST_RETAILER]),
+        retailer: 0,
         requested_day: some_day(random, today),
         scheduled_day: match status {
             status::IN_REVIEW | status::PERMIT_PENDING => NO_DAY,
@@ -65,6 +69,10 @@ fn well_kept_order(random: &mut Random, today: u16, status: u8) -> Order {
         }),
         told: random.below(2) as u8,
     }
+}
+
+fn order_retailer(random: &mut Random) -> u32 {
+    random.pick(&[101, 202, 303, LARGEST_RETAILER])
 }
 
 fn some_day(random: &mut Random, today: u16) -> u16 {

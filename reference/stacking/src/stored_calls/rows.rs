@@ -9,6 +9,7 @@ pub fn calls() -> Vec<Stored> {
         new_orders(),
         days_ahead(),
         first_in(),
+        shares(),
         on_orders(),
         marks(),
     ]
@@ -210,6 +211,135 @@ fn first_in() -> Vec<Stored> {
             "a drop is always first in",
             &held(scheduled(2, STANDARD_SWITCH, 20)),
             new_order(1, MASS_TRANSITION_DROP, 20),
+        ),
+    ]
+}
+
+/// Row 26, about orders of the retailer that the new order has.
+fn shares() -> Vec<Stored> {
+    let of = |retailer, orders: &[Order]| -> Vec<Order> {
+        orders.iter().map(|&order| by(retailer, order)).collect()
+    };
+    let each_open = of(
+        ANOTHER,
+        &[
+            in_review(1, MOVE_OUT),
+            permit_pending(2),
+            told(scheduled(3, MOVE_IN, 12)),
+            cancel_pending(4, SELF_SELECTED_SWITCH, NO_DAY),
+        ],
+    );
+    let review = |references: std::ops::RangeInclusive<u32>, kind, retailer| -> Vec<Order> {
+        references
+            .map(|reference| by(retailer, in_review(reference, kind)))
+            .collect()
+    };
+    let closed = of(
+        ANOTHER,
+        &[
+            complete(5, MOVE_IN, 8),
+            cancelled(6, MOVE_OUT),
+            order(7, MOVE_IN, status::UNEXECUTABLE, NO_DAY),
+        ],
+    );
+    let four = [file(&each_open)];
+    let drops = [file(&review(1..=4, MASS_TRANSITION_DROP, ANOTHER))];
+    let five = [file(&review(1..=5, MOVE_OUT, ANOTHER))];
+    let three_and_closed = [file(&[&closed[..], &each_open[1..]].concat())];
+    let others = [file(
+        &[
+            review(5..=8, MOVE_OUT, SUBMITTER),
+            review(1..=3, MOVE_OUT, ANOTHER),
+        ]
+        .concat(),
+    )];
+    let ends_alike = [file(
+        &(1..=4)
+            .map(|place| by(ANOTHER + (place << 16), in_review(place, MOVE_OUT)))
+            .collect::<Vec<Order>>(),
+    )];
+    let elsewhere = [
+        File {
+            premise: 6,
+            ..four[0]
+        },
+        file(&[]),
+    ];
+    // the last four are the retailer's, and the first is Scheduled
+    let mut eight = review(5..=8, MOVE_OUT, SUBMITTER);
+    eight[0] = told(scheduled(5, MOVE_IN, 12));
+    eight.extend(review(1..=4, MOVE_OUT, ANOTHER));
+    let mut three_of_eight = eight.clone();
+    three_of_eight[4].retailer = HOLDER;
+    let holders = [file(&review(1..=4, MOVE_OUT, HOLDER))];
+    let eight = [file(&eight)];
+    let no_switches = vec![2; 30];
+    vec![
+        stored(
+            "row 26: an open order in each open status",
+            &four,
+            new_order(9, MOVE_IN, 13),
+        ),
+        stored("row 26: a new move out", &drops, new_order(9, MOVE_OUT, 13)),
+        stored(
+            "row 26: a new standard switch",
+            &drops,
+            new_order(9, STANDARD_SWITCH, 0),
+        ),
+        stored(
+            "row 26: a new self-selected switch",
+            &drops,
+            new_order(9, SELF_SELECTED_SWITCH, 13),
+        ),
+        stored(
+            "row 26: a new drop",
+            &four,
+            new_order(9, MASS_TRANSITION_DROP, 13),
+        ),
+        stored(
+            "row 26: five open orders, as no tape leads to",
+            &five,
+            new_order(9, MOVE_IN, 13),
+        ),
+        stored(
+            "no row 26 with three open orders, however many are closed",
+            &three_and_closed,
+            new_order(9, MOVE_IN, 13),
+        ),
+        stored(
+            "no row 26 by other retailers' orders",
+            &others,
+            new_order(9, MOVE_IN, 13),
+        ),
+        stored(
+            "no row 26 by orders of the premise's retailer",
+            &holders,
+            new_order(9, MOVE_IN, 13),
+        ),
+        stored(
+            "no row 26 by retailers whose numbers end alike",
+            &ends_alike,
+            new_order(9, MOVE_IN, 13),
+        ),
+        stored(
+            "no row 26 by orders at another premise",
+            &elsewhere,
+            new_order(9, MOVE_IN, 13),
+        ),
+        stored("row 8 before row 26", &eight, new_order(4, MOVE_IN, 13)),
+        stored("row 9 before row 26", &eight, new_order(9, MOVE_IN, 400)),
+        stored(
+            "row 10 before row 26",
+            &eight,
+            new_order(9, STANDARD_SWITCH, 0),
+        )
+        .with_calendar(no_switches),
+        stored("row 11 before row 26", &eight, new_order(9, MOVE_IN, 12)),
+        stored("row 26 before row 12", &eight, new_order(9, MOVE_IN, 13)),
+        stored(
+            "row 12: three of eight open orders are the retailer's",
+            &[file(&three_of_eight)],
+            new_order(9, MOVE_IN, 13),
         ),
     ]
 }

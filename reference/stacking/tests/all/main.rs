@@ -3,6 +3,7 @@
 mod demand_three;
 mod programs;
 mod record_call;
+mod retailer_share;
 mod row_three;
 mod row_two;
 mod rows;

@@ -15,6 +15,15 @@ fn take(book: &mut Book, buffer: &mut [u8], premise: u64, entry: Entry) {
     assert_eq!(answer, Answer::Accepted, "{premise} {entry:?}");
 }
 
+/// Four orders of a full stack are one retailer's, four another's.
+fn submitter_of(reference: u32) -> u32 {
+    if reference <= 4 {
+        SUBMITTER
+    } else {
+        ANOTHER
+    }
+}
+
 /// 64 files with 8 cancelled orders each that wait for the last of 7 days.
 fn book_before_the_largest_mark() -> Book {
     let mut book = Book::fresh(0);
@@ -22,8 +31,13 @@ fn book_before_the_largest_mark() -> Book {
     for premise in 1..=FILES_A_BOOK as u64 {
         take(&mut book, &mut buffer, premise, create(0, HOLDER));
         for reference in 1..=ORDERS_A_FILE as u32 {
-            take(&mut book, &mut buffer, premise, new_order(1, 90, reference));
-            take(&mut book, &mut buffer, premise, cancel(reference));
+            let retailer = submitter_of(reference);
+            for entry in [
+                new_order_of(retailer, 1, 90, reference),
+                cancel_by(retailer, reference),
+            ] {
+                take(&mut book, &mut buffer, premise, entry);
+            }
         }
     }
     for day in 1..=6 {
@@ -44,7 +58,7 @@ fn a_mark_with_1024_notices_fills_the_buffer() {
         let fields = Fields::from_bytes(bytes.try_into().unwrap());
         assert_eq!(fields.premise, place as u64 / 16 + 1);
         let reference = place as u32 % 16 / 2 + 1;
-        let addressee = [TDSP, SUBMITTER][place % 2];
+        let addressee = [TDSP, submitter_of(reference)][place % 2];
         assert_eq!(notice(bytes), (5, 1, NONE, reference, addressee));
     }
     assert!(is_well_kept(&book));
@@ -126,7 +140,6 @@ fn the_64th_file_is_taken_and_a_retired_one_makes_room() {
 
 #[test]
 fn the_answers_have_the_documents_numbers() {
-    for (number, answer) in Answer::ALL.iter().enumerate() {
-        assert_eq!(usize::from(answer.number()), number);
-    }
+    let numbers: Vec<u8> = Answer::ALL.iter().map(|answer| answer.number()).collect();
+    assert_eq!(numbers, Vec::from_iter((0..=15).chain([26])));
 }

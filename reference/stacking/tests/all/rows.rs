@@ -68,10 +68,23 @@ fn full_book(today: u16) -> Book {
     book
 }
 
+/// Eight open orders of two other retailers than the submitter.
 fn eight_open() -> Vec<Order> {
     (1..=8)
-        .map(|reference| order(reference, 1, 310, NONE, 1))
+        .map(|reference| Order {
+            retailer: if reference <= 4 { HOLDER } else { ANOTHER },
+            ..order(reference, 1, 310, NONE, 1)
+        })
         .collect()
+}
+
+/// The same, but four are the submitter's.
+fn eight_open_four_of_submitter() -> Vec<Order> {
+    let mut orders = eight_open_one_scheduled();
+    for order in &mut orders[4..] {
+        order.retailer = SUBMITTER;
+    }
+    orders
 }
 
 /// Eight open orders, the first a move in Scheduled for day 310.
@@ -81,7 +94,7 @@ fn eight_open_one_scheduled() -> Vec<Order> {
     orders
 }
 
-/// A call for each number from 3 on, and accepted ones of every kind.
+/// A call for each number from 3 on, and accepted ones of every kind of record.
 fn cases() -> Vec<Case> {
     let mark_case = |answer, day| Case {
         record: mark(day).to_vec(),
@@ -91,6 +104,7 @@ fn cases() -> Vec<Case> {
     let scheduled_move_in = [order(1, 1, 310, 310, 3)];
     let cancel_pending = [order(1, 1, 310, 310, 4)];
     let closed = [order(1, 1, 310, 310, 6)];
+    let four_open = [1, 2, 3, 4].map(|reference| order(reference, 2, 310, NONE, 1));
     vec![
         Case::new(0, &[], create(5, 0)).for_premise_not_held(),
         Case::new(0, &closed, Entry::Retire),
@@ -118,6 +132,7 @@ fn cases() -> Vec<Case> {
         Case::new(9, &[], new_order(4, 391, 1)),
         Case::new(10, &[], new_order(3, 0, 1)).on_calendar(vec![]),
         Case::new(11, &scheduled_move_in, new_order(1, 310, 2)),
+        Case::new(26, &four_open, new_order(1, 310, 9)),
         Case::new(12, &eight_open(), new_order(1, 310, 9)),
         Case::new(13, &review, scheduled(2, 310)),
         Case::new(13, &review, cancel_by(HOLDER, 1)),
@@ -132,7 +147,7 @@ fn each_row_on_its_own() {
     for case in &cases {
         assert_eq!(case.call(), case.answer, "{:?}", case.record);
     }
-    for number in 3..=15 {
+    for number in (3..=15).chain([26]) {
         assert!(cases.iter().any(|case| case.answer == number));
     }
 }
@@ -149,7 +164,7 @@ fn row_1_comes_before_all_others() {
 }
 
 #[test]
-fn row_2_comes_before_rows_3_to_15() {
+fn row_2_comes_before_all_but_row_1() {
     for mut case in cases() {
         case.book.today = 4_096;
         assert_eq!(case.call(), 2);
@@ -157,7 +172,7 @@ fn row_2_comes_before_rows_3_to_15() {
 }
 
 #[test]
-fn row_3_comes_before_rows_4_to_15() {
+fn row_3_comes_before_rows_4_to_15_and_26() {
     for mut case in cases() {
         case.record[23] = 1;
         assert_eq!(case.call(), 3);
@@ -187,8 +202,12 @@ fn row_5_comes_before_row_6() {
 }
 
 #[test]
-fn row_8_comes_before_rows_9_to_12() {
-    for orders in [eight_open_one_scheduled(), eight_open()] {
+fn row_8_comes_before_rows_9_to_12_and_26() {
+    for orders in [
+        eight_open_one_scheduled(),
+        eight_open(),
+        eight_open_four_of_submitter(),
+    ] {
         for entry in [
             new_order(1, 391, 1),
             new_order(1, 310, 1),
@@ -206,22 +225,37 @@ fn row_8_comes_before_rows_9_to_12() {
 }
 
 #[test]
-fn row_9_comes_before_rows_11_and_12() {
+fn row_9_comes_before_rows_11_26_and_12() {
     let far = [order(1, 1, 310, 391, 3)];
     assert_eq!(Case::new(9, &far, new_order(1, 391, 2)).call(), 9);
-    assert_eq!(Case::new(9, &eight_open(), new_order(1, 391, 9)).call(), 9);
+    for orders in [eight_open(), eight_open_four_of_submitter()] {
+        assert_eq!(Case::new(9, &orders, new_order(1, 391, 9)).call(), 9);
+    }
 }
 
 #[test]
-fn row_10_comes_before_row_12() {
-    let case = Case::new(10, &eight_open(), new_order(3, 0, 9)).on_calendar(vec![]);
-    assert_eq!(case.call(), 10);
+fn row_10_comes_before_rows_26_and_12() {
+    for orders in [eight_open(), eight_open_four_of_submitter()] {
+        let case = Case::new(10, &orders, new_order(3, 0, 9)).on_calendar(vec![]);
+        assert_eq!(case.call(), 10);
+    }
 }
 
 #[test]
-fn row_11_comes_before_row_12() {
-    let case = Case::new(11, &eight_open_one_scheduled(), new_order(1, 310, 9));
-    assert_eq!(case.call(), 11);
+fn row_11_comes_before_rows_26_and_12() {
+    for orders in [eight_open_one_scheduled(), eight_open_four_of_submitter()] {
+        assert_eq!(Case::new(11, &orders, new_order(1, 310, 9)).call(), 11);
+    }
+}
+
+#[test]
+fn row_26_comes_before_row_12() {
+    let orders = eight_open_four_of_submitter();
+    assert_eq!(Case::new(26, &orders, new_order(1, 311, 9)).call(), 26);
+    assert_eq!(
+        Case::new(12, &orders, new_order_of(ANOTHER, 1, 311, 9)).call(),
+        12
+    );
 }
 
 #[test]

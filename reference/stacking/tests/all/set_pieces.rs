@@ -1,4 +1,5 @@
-//! The set pieces a to j of document 01. All days are business days unless said.
+//! The set pieces a to j of document 01, e as document 02 has it. All days are
+//! business days unless said.
 
 use crate::support::*;
 use stacking::days::switch_date;
@@ -41,13 +42,14 @@ fn d_the_switch_date_passes_over_sundays_and_holidays() {
 }
 
 #[test]
-fn e_eight_open_orders() {
+fn e_eight_open_orders_of_two_retailers_met_by_a_third() {
     let mut desk = Desk::new(10);
     for reference in 1..=8 {
-        desk.take(&[new_order(1, 20, reference)]);
+        let retailer = if reference <= 4 { SUBMITTER } else { HOLDER };
+        desk.take(&[new_order_of(retailer, 1, 20, reference)]);
     }
-    assert_eq!(desk.send(new_order(1, 20, 9)), 12);
-    desk.take(&[unexecutable(3), new_order(1, 20, 9)]);
+    assert_eq!(desk.send(new_order_of(ANOTHER, 1, 20, 9)), 12);
+    desk.take(&[unexecutable(3), new_order_of(ANOTHER, 1, 20, 9)]);
     let references: Vec<u32> = desk
         .file()
         .held()

@@ -104,7 +104,10 @@ fn the_oldest_closed_order_is_dropped() {
         orders[place].status = status::CANCELLED;
     }
     let mut desk = Desk::with_file(10, business_days(), file_with(&orders));
-    desk.take(&[new_order(1, 25, 9), new_order(1, 25, 10)]);
+    desk.take(&[
+        new_order_of(ANOTHER, 1, 25, 9),
+        new_order_of(ANOTHER, 1, 25, 10),
+    ]);
     let references: Vec<u32> = desk
         .file()
         .held()
@@ -112,7 +115,7 @@ fn the_oldest_closed_order_is_dropped() {
         .map(|held| held.reference)
         .collect();
     assert_eq!(references, [1, 2, 4, 5, 7, 8, 9, 10]);
-    assert_eq!(desk.send(new_order(1, 25, 11)), 12);
+    assert_eq!(desk.send(new_order_of(ANOTHER, 1, 25, 11)), 12);
 }
 
 #[test]

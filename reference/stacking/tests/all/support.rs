@@ -14,9 +14,10 @@ pub const PATTERN: u8 = 0xA5;
 /// The desk's premise.
 pub const PREMISE: u64 = 7;
 
-/// The desk's retailer R at the start, and the one that submits orders.
+/// The desk's retailer R at the start, the one that submits orders, and a third.
 pub const HOLDER: u32 = 101;
 pub const SUBMITTER: u32 = 202;
+pub const ANOTHER: u32 = 303;
 
 pub const TDSP: u32 = 0;
 pub const NONE: u16 = 4_096;

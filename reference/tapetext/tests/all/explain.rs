@@ -135,6 +135,12 @@ fn each_row_has_its_words() {
             "mass transition drop, premise 8, reference 1: the premise has 8 open orders",
         ),
         (
+            "drop premise 8 reference 1 day 3 retailer 5",
+            26,
+            "mass transition drop, premise 8, reference 1, retailer 5: its retailer has 4 or more \
+             open orders at the premise",
+        ),
+        (
             "cancel premise 8 reference 1 retailer 5",
             13,
             "cancel, premise 8, reference 1, retailer 5: there is no such reference, or on a \

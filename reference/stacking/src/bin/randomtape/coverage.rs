@@ -69,7 +69,10 @@ const PASS_STEPS: [Pass; 4] = [
 #[derive(Default)]
 pub struct Coverage {
     tapes: u64,
-    answers: [u64; 16],
+    /// By place in [`Answer::ALL`].
+    answers: [u64; Answer::ALL.len()],
+    /// Row 26: with a place left that no open order takes, with none.
+    shares: [u64; 2],
     /// By kind of record: refused, accepted.
     kinds: [[u64; 2]; 11],
     codes: [u64; 8],
@@ -103,6 +106,7 @@ impl Coverage {
                 continue;
             };
             self.count_table(&before, calendar, &record, answer);
+            self.count_share(&before, &record, answer);
             if answer == Answer::Accepted {
                 self.count_steps(&before, calendar, &record);
                 self.count_created_again(&record, &mut retired);
@@ -115,7 +119,8 @@ impl Coverage {
             None => 0,
             Some(_) => usize::from(record[0]),
         };
-        self.answers[usize::from(answer.number())] += 1;
+        let place = Answer::ALL.iter().position(|&known| known == answer);
+        self.answers[place.expect("every answer is among them")] += 1;
         self.kinds[kind][usize::from(answer == Answer::Accepted)] += 1;
         for notice in notices.chunks_exact(RECORD_BYTES) {
             self.codes[usize::from(notice[0]) - 1] += 1;
@@ -138,7 +143,10 @@ impl Coverage {
     fn count_table(&mut self, before: &Book, calendar: &[u8], record: &Record, answer: Answer) {
         let comes_to_row_11 = matches!(
             answer,
-            Answer::Accepted | Answer::NotFirstIn | Answer::EightOpenOrders
+            Answer::Accepted
+                | Answer::NotFirstIn
+                | Answer::FourOpenOrdersOfRetailer
+                | Answer::EightOpenOrders
         );
         let Record::OfPremise { premise, entry } = *record else {
             return;
@@ -151,6 +159,16 @@ impl Coverage {
             if order.is_scheduled() && new.kind != kind::MASS_TRANSITION_DROP {
                 self.count_cell(order, new.kind, day);
             }
+        }
+    }
+
+    /// A retailer that has its share: are other retailers' orders the rest of eight?
+    fn count_share(&mut self, before: &Book, record: &Record, answer: Answer) {
+        if let (Record::OfPremise { premise, .. }, Answer::FourOpenOrdersOfRetailer) =
+            (*record, answer)
+        {
+            let full = file_of(before, premise).is_full_of_open_orders();
+            self.shares[usize::from(full)] += 1;
         }
     }
 
@@ -222,12 +240,15 @@ impl Coverage {
     /// Every count with its name, in the paper's order.
     fn lines(&self) -> Vec<(String, u64)> {
         let mut lines = Vec::new();
-        for (number, &count) in self.answers.iter().enumerate() {
+        for (answer, &count) in Answer::ALL.iter().zip(&self.answers) {
             // no tape gets 1 or 2
-            if number != 1 && number != 2 {
-                lines.push((format!("answer {number}"), count));
+            if !matches!(answer, Answer::BufferTooShort | Answer::BookNotWellKept) {
+                lines.push((format!("answer {}", answer.number()), count));
             }
         }
+        let [room_left, full] = self.shares;
+        lines.push(("answer 26 with fewer than 8 open orders".into(), room_left));
+        lines.push(("answer 26 with 8 open orders".into(), full));
         for (name, [refused, accepted]) in KINDS.iter().zip(self.kinds) {
             lines.push((format!("record {name}, refused"), refused));
             if *name != KINDS[0] {

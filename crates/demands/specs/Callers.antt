@@ -19,7 +19,7 @@ use Rattle.demands.specs.Demand3.{Made, Played, AllAllowed}
 use Rattle.demands.specs.Tapes.{Plays}
 
 -- ---- one call
--- A call is accepted where its buffer is long enough, its book well kept, and no row from 3 to 15 holds for its record; and nowhere else.
+-- A call is accepted where its buffer is long enough, its book well kept, and no row from 3 on holds for its record; and nowhere else.
 pub record InOrder (calendar : List ℕ) (b : Book) (bytes before : List ℕ) : Type 0 where
   pub room : noticeBytes ≤ length before
   pub kept : bookKept b ≡ true

@@ -3,7 +3,7 @@
 use Prim.Native.Nat.{ℕ, zero, suc, _+_, _≤_, _<_}
 use mathlib.Core.Path.{_≡_, refl, sym, ap, _∙_}
 use mathlib.Core.List.{List, [], _∷_}
-use mathlib.Core.Bool.{Bool, true, false, not}
+use mathlib.Core.Bool.{Bool, true, false, cond, not}
 use native.Mathlib.Numerals.{add-one}
 use native.Mathlib.Omega.{arith}
 use lib.ListN.{length, take, drop, getD, length-take, drop-of-length-le}
@@ -45,6 +45,9 @@ module _ {X : Type 0} (p : X → Bool) {x : X} {left rest : List X} (e : left �
   pub all-next : p x ≡ true → allOf p left ≡ allOf p rest
   all-next q = rw (e, q)
 
+  pub count-next : countOf p left ≡ cond (p x) 1 0 + countOf p rest
+  count-next = rw e
+
   pub place-hit : (i : ℕ) → p x ≡ true → placeFrom p i left ≡ At i
   place-hit i q = rw (e, q)
 
@@ -58,6 +61,9 @@ module _ {X : Type 0} (p : X → Bool) {left : List X} (e : left ≡ []) where
 
   pub all-end : allOf p left ≡ true
   all-end = rw e
+
+  pub count-end : countOf p left ≡ 0
+  count-end = rw e
 
   pub place-end : (i : ℕ) → placeFrom p i left ≡ Nothing
   place-end i = rw e

@@ -112,6 +112,33 @@ module _ {A : Type 0} where
       let rest = count-most p xs in
       by-test (λ (n : ℕ). n + countOf p xs ≤ suc (length xs)) (p x) 1 0 (λ e. omega arith) (λ e. omega arith)
 
+  pub count-append : (p : A → Bool) (xs ys : List A) → countOf p (xs ++ ys) ≡ countOf p xs + countOf p ys
+  count-append p [] ys = omega arith
+  count-append p (x ∷ xs) ys = let rest = count-append p xs ys in omega (arith, rest)
+
+  pub count-without : (p q : A → Bool) (xs : List A) → countOf p (withoutFirst q xs) ≤ countOf p xs
+  count-without p q [] = omega arith
+  count-without p q (x ∷ xs) =
+      let rest = count-without p q xs in
+      by-test (λ (ys : List A). countOf p ys ≤ countOf p (x ∷ xs)) (q x) xs (x ∷ withoutFirst q xs) (λ e. omega arith)
+      (λ e. omega (arith, rest))
+
+  -- one element for another that passes where it does: no more are counted
+  pub count-one : (p : A → Bool) (x y : A) → (p y ≡ true → p x ≡ true) → (m n : ℕ) → m ≤ n → cond (p y) 1 0 + m ≤ cond (p x) 1 0 + n
+  count-one p x y h m n l = go (p y) (p x) h
+    where
+      go : (a b : Bool) → (a ≡ true → b ≡ true) → cond a 1 0 + m ≤ cond b 1 0 + n
+      go true true k = omega arith
+      go true false k = absurd (false≢true (k refl))
+      go false true k = omega arith
+      go false false k = omega arith
+
+  pub count-set : (p : A → Bool) (xs : List A) (i : ℕ) (y d : A) → (p y ≡ true → p (getD xs i d) ≡ true)
+      → countOf p (set xs i y) ≤ countOf p xs
+  count-set p [] i y d h = omega arith
+  count-set p (x ∷ xs) zero y d h = count-one p x y h (countOf p xs) (countOf p xs) (omega arith)
+  count-set p (x ∷ xs) (suc i) y d h = let rest = count-set p xs i y d h in omega (arith, rest)
+
   -- where not all elements pass, some element fails
   pub some-fails : (p : A → Bool) (xs : List A) → countOf p xs < length xs → anyOf (λ (x : A). not (p x)) xs ≡ true
   some-fails p [] h = absurd (omega arith)

@@ -25,6 +25,11 @@ pub or-right : (a b : Bool) → (a || b) ≡ false → b ≡ false
 or-right true b h = absurd (false≢true (sym h))
 or-right false b h = h
 
+-- one of two tests passed: what follows from each follows
+pub or-either : {X : Type 0} (a b : Bool) → (a || b) ≡ true → (a ≡ true → X) → (b ≡ true → X) → X
+or-either true b h f g = f refl
+or-either false b h f g = g h
+
 pub and-other : (a b : Bool) → (a && b) ≡ false → a ≡ true → b ≡ false
 and-other true b h e = h
 and-other false b h e = absurd (false≢true e)

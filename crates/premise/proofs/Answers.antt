@@ -14,7 +14,8 @@ use Rattle.premise.specs.declared.File.{File}
 use Rattle.premise.specs.declared.Answer.{Answer}
 use Rattle.premise.specs.declared.Answer.the-variants.{Accepted, ShortBuffer, NotWellKept, MalformedRecord, NoSuchPremise}
 use Rattle.premise.specs.declared.Answer.the-variants.{PremiseHeld, BookFull, OrderOpen, ReferenceHeld, DayOutOfRange, NoSwitchDate}
-use Rattle.premise.specs.declared.Answer.the-variants.{NotFirstIn, StackFull, NoSuchOrder, StatusNotTaken, NotNextDay}
+use Rattle.premise.specs.declared.Answer.the-variants.{NotFirstIn, RetailerShareFull, StackFull, NoSuchOrder, StatusNotTaken}
+use Rattle.premise.specs.declared.Answer.the-variants.{NotNextDay}
 use Rattle.premise.specs.Steps.{is}
 use Rattle.premise.specs.Refusals.{Row, number, firstRow, rows, isHeld, premiseRows, orderRows}
 use Rattle.premise.specs.OnePremise.{State, Given, effectOn, decide, refused, step}
@@ -68,6 +69,7 @@ decided ReferenceHeld done s h = refl
 decided DayOutOfRange done s h = refl
 decided NoSwitchDate done s h = refl
 decided NotFirstIn done s h = refl
+decided RetailerShareFull done s h = refl
 decided StackFull done s h = refl
 decided NoSuchOrder done s h = refl
 decided StatusNotTaken done s h = refl

@@ -7,7 +7,7 @@ use Rattle.premise.specs.Pieces.Document.{limits, reviews, permits, swit
 use Rattle.premise.specs.Pieces.Records.{created, ordered, scheduledOrPermitted, unexecuteds, readings, cancels, evaluations}
 use Rattle.premise.specs.Pieces.Clock.{reviewsEnd, permitsEnd, cancelsEnd}
 use Rattle.premise.specs.Pieces.Evaluation.{sameDay, drops, overtaken, losing}
-use Rattle.premise.specs.Pieces.Refusals.{firstIn, statuses, premises, dayLimits, stacks}
+use Rattle.premise.specs.Pieces.Refusals.{firstIn, statuses, premises, dayLimits, stacks, shares}
 use Rattle.premise.specs.Pieces.Kept.{keptOrders, keptFiles, numbers}
 use Rattle.premise.specs.Pieces.{pieces}
 
@@ -125,6 +125,10 @@ stacks-hold : Hold stacks
 unfolding failed stacks
 stacks-hold = record { none = refl }
 
+shares-hold : Hold shares
+unfolding failed shares
+shares-hold = record { none = refl }
+
 keptOrders-hold : Hold keptOrders
 unfolding failed keptOrders
 keptOrders-hold = record { none = refl }
@@ -141,4 +145,5 @@ pub set-pieces : failed pieces ≡ []
 set-pieces = (limits-hold also reviews-hold also permits-hold also switches-hold also tape-hold also created-hold also ordered-hold also
     scheduledOrPermitted-hold also unexecuteds-hold also readings-hold also cancels-hold also evaluations-hold also reviewsEnd-hold also
     permitsEnd-hold also cancelsEnd-hold also sameDay-hold also drops-hold also overtaken-hold also losing-hold also firstIn-hold also
-    statuses-hold also premises-hold also dayLimits-hold also stacks-hold also keptOrders-hold also keptFiles-hold also numbers-hold) .none
+    statuses-hold also premises-hold also dayLimits-hold also stacks-hold also shares-hold also keptOrders-hold also keptFiles-hold also
+    numbers-hold) .none

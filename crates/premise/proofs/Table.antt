@@ -1,33 +1,37 @@
 -- What the book's own table rests on: which answers have the numbers 0 and 6, the rows' numbers in their order, that no row of the
 -- one-premise rules has 6, row 4 on a record of a premise that is not held, and row 5 on a create of one that is. Assumes nothing.
 use Prim.Native.Nat.{ℕ}
-use mathlib.Core.Path.{_≡_, refl, sym, ap, _∙_}
-use mathlib.Core.List.{List, [], _∷_}
+use mathlib.Core.Path.{_≡_, refl, sym, ap, ap₂, _∙_}
+use mathlib.Core.List.{List, [], _∷_, _++_}
 use mathlib.Core.Option.{Option}
-use mathlib.Core.Bool.{Bool, true, false, cond, not}
+use mathlib.Core.Bool.{Bool, true, false, cond, not, _||_}
 use native.Mathlib.Omega.{arith}
 use lib.Dec.{eqb}
-use lib.ListN.{getD}
-use borrow.Author.Tests.{eqb-true, eqb-false, not-true}
-use Rattle.lists.specs.Search.{allOf}
-use Rattle.lists.proofs.TestLaws.{and-left, and-right}
+use lib.ListN.{getD, replicate}
+use borrow.Author.Tests.{eqb-true, eqb-false, ne-eqb, lt-leb, not-true}
+use Rattle.lists.specs.Search.{anyOf, allOf, countOf}
+use Rattle.lists.proofs.TestLaws.{and-left, and-right, or-left, or-right}
 use Rattle.records.specs.declared.Record.{Record}
-use Rattle.records.specs.Records.{kindCreate}
+use Rattle.records.specs.Records.{kindCreate, kindNewOrder}
 use Rattle.premise.specs.declared.File.{File}
 use Rattle.premise.specs.declared.Answer.{Answer}
 use Rattle.premise.specs.declared.Answer.the-variants.{Accepted, ShortBuffer, NotWellKept, MalformedRecord, NoSuchPremise}
 use Rattle.premise.specs.declared.Answer.the-variants.{PremiseHeld, BookFull, OrderOpen, ReferenceHeld, DayOutOfRange, NoSwitchDate}
-use Rattle.premise.specs.declared.Answer.the-variants.{NotFirstIn, StackFull, NoSuchOrder, StatusNotTaken, NotNextDay}
-use Rattle.premise.specs.Refusals.{Row, number, firstRow, premiseRows, orderRows, rows}
+use Rattle.premise.specs.declared.Answer.the-variants.{NotFirstIn, RetailerShareFull, StackFull, NoSuchOrder, StatusNotTaken}
+use Rattle.premise.specs.declared.Answer.the-variants.{NotNextDay}
+use Rattle.premise.specs.Orders.{mostOrders, mostOfOne, isOpen, openOf}
+use Rattle.premise.specs.Refusals.{Row, number, firstRow, inFrontOf, fromRow, premiseRows, orderRows, rows}
 use Rattle.premise.specs.Laws.{AcceptedIsZero, FullIsSix, NoRow6, NeedsFile, CreateHeld, PremiseRowNumbers, OrderRowNumbers}
-use Rattle.premise.specs.Laws.{BookAnswers}
+use Rattle.premise.proofs.Answers.{holds}
+use Rattle.premise.specs.Laws.{BookAnswers, RoomFrom26, rowNumbers}
 
 -- ---- the numbers of the answers
--- the answers in the order of their numbers, by which a number names its answer
+-- the answers in the order of their numbers, by which a number names its answer; 16 to 25 name none
 abbrev answers : List Answer
 answers =
-    Accepted ∷ ShortBuffer ∷ NotWellKept ∷ MalformedRecord ∷ NoSuchPremise ∷ PremiseHeld ∷ BookFull ∷ OrderOpen
-    ∷ ReferenceHeld ∷ DayOutOfRange ∷ NoSwitchDate ∷ NotFirstIn ∷ StackFull ∷ NoSuchOrder ∷ StatusNotTaken ∷ NotNextDay ∷ []
+    (Accepted ∷ ShortBuffer ∷ NotWellKept ∷ MalformedRecord ∷ NoSuchPremise ∷ PremiseHeld ∷ BookFull ∷ OrderOpen
+    ∷ ReferenceHeld ∷ DayOutOfRange ∷ NoSwitchDate ∷ NotFirstIn ∷ StackFull ∷ NoSuchOrder ∷ StatusNotTaken ∷ NotNextDay ∷ [])
+    ++ replicate 10 Accepted ++ (RetailerShareFull ∷ [])
 
 named-back : (answer : Answer) → getD answers (number answer) Accepted ≡ answer
 unfolding number
@@ -43,6 +47,7 @@ named-back ReferenceHeld = refl
 named-back DayOutOfRange = refl
 named-back NoSwitchDate = refl
 named-back NotFirstIn = refl
+named-back RetailerShareFull = refl
 named-back StackFull = refl
 named-back NoSuchOrder = refl
 named-back StatusNotTaken = refl
@@ -92,6 +97,37 @@ pub no-row-6 : NoRow6
 no-row-6 calendar today file r e =
     first-not-six (rows calendar today file r) (none-is-six calendar today file r)
     (full-is-six (firstRow (rows calendar today file r)) .1 e)
+
+-- ---- the rows from a number on
+-- where no row in front has the number, they are those of the rest
+pub from-skips : (n : ℕ) (rs more : List Row) → anyOf (λ (k : ℕ). eqb k n) (rowNumbers rs) ≡ false → fromRow n (rs ++ more) ≡ fromRow n more
+from-skips n [] more h = refl
+from-skips n (x ∷ rs) more h =
+    let later = from-skips n rs more (or-right (eqb (number (x .answer)) n) (anyOf (λ (k : ℕ). eqb k n) (rowNumbers rs)) h) in
+    rw (or-left (eqb (number (x .answer)) n) (anyOf (λ (k : ℕ). eqb k n) (rowNumbers rs)) h) later
+
+-- no row holds in front of the number, and none from it on
+pub none-in-all : (n : ℕ) (rs : List Row) → anyOf holds (inFrontOf n rs) ≡ false → anyOf holds (fromRow n rs) ≡ false
+    → anyOf holds rs ≡ false
+none-in-all n [] h k = refl
+none-in-all n (x ∷ rs) h k = go (eqb (number (x .answer)) n) h k (none-in-all n rs)
+  where
+    go : (b : Bool) → anyOf holds (cond b [] (x ∷ inFrontOf n rs)) ≡ false → anyOf holds (cond b (x ∷ rs) (fromRow n rs)) ≡ false
+        → (anyOf holds (inFrontOf n rs) ≡ false → anyOf holds (fromRow n rs) ≡ false → anyOf holds rs ≡ false)
+        → anyOf holds (x ∷ rs) ≡ false
+    go true h k later = k
+    go false h k later =
+        ap₂ (λ (a b : Bool). a || b) (or-left (x .when) (anyOf holds (inFrontOf n rs)) h)
+        (later (or-right (x .when) (anyOf holds (inFrontOf n rs)) h) k)
+
+pub room-from-26 : RoomFrom26
+unfolding number orderRows
+room-from-26 calendar today os r e own all =
+    rw (
+      eqb-true (r .kind) kindNewOrder e,
+      lt-leb mostOfOne (openOf (r .retailer) os) own,
+      ne-eqb (countOf isOpen os) mostOrders (λ q. omega (arith, q, all)),
+    )
 
 pub needs-file : NeedsFile
 unfolding premiseRows

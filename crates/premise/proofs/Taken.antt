@@ -1,13 +1,15 @@
 -- From which statuses, and for which kinds of order, a record is taken, by the record's kind. Assumes nothing.
 use Prim.Native.Nat.{ℕ}
 use mathlib.Core.Path.{_≡_, refl, ap, _∙_}
-use mathlib.Core.Bool.{false, _&&_, _||_, or-false}
-use borrow.Author.Tests.{ne-eqb}
+use mathlib.Core.Bool.{Bool, true, false, _&&_, _||_, or-false}
+use lib.Dec.{leb}
+use borrow.Author.Tests.{ne-eqb, eqb-true}
+use Rattle.lists.proofs.TestLaws.{and-right, or-either}
 use Rattle.records.specs.declared.Record.{Record}
 use Rattle.records.specs.Records.{kindScheduled, kindPermit, kindUnexecutable, kindRead, kindCancel, kindReply, moveIn}
 use Rattle.premise.specs.declared.Order.{Order}
 use Rattle.premise.specs.Orders.{inReview, permitPending, scheduled, cancelPending, hasStatus, hasKind, isOpen}
-use Rattle.premise.specs.Steps.{taken}
+use Rattle.premise.specs.Steps.{is, taken}
 
 -- a record with its kind written in it: the tests on the kind then compute
 abbrev ofKind : ℕ → Record → Record
@@ -63,3 +65,40 @@ module _ (r : Record) (o : Order) where
         ne-eqb (r .kind) kindCancel c,
         ne-eqb (r .kind) kindReply a,
       )
+
+-- ---- whatever the kind, only an open order is taken
+pub status-open : (status : ℕ) (o : Order) → (leb inReview status && leb status cancelPending) ≡ true → hasStatus status o ≡ true
+    → isOpen o ≡ true
+status-open status o h e = ap (λ (s : ℕ). leb inReview s && leb s cancelPending) (eqb-true (o .status) status e) ∙ h
+
+module _ (r : Record) (o : Order) where
+  abbrev reviewedOr : ℕ → Bool
+  reviewedOr status = hasStatus inReview o || hasStatus permitPending o || hasStatus status o
+
+  reviewed-or : (status : ℕ) → (leb inReview status && leb status cancelPending) ≡ true → reviewedOr status ≡ true → isOpen o ≡ true
+  reviewed-or status h e =
+      or-either (hasStatus inReview o || hasStatus permitPending o) (hasStatus status o) e
+      (λ e. or-either (hasStatus inReview o) (hasStatus permitPending o) e (status-open inReview o refl) (status-open permitPending o refl))
+      (status-open status o h)
+
+  pub taken-open : taken r o ≡ true → isOpen o ≡ true
+  unfolding taken
+  taken-open t =
+      let a : Bool = is kindScheduled r && reviewedOr cancelPending in
+      let b : Bool = is kindPermit r && hasKind moveIn o && hasStatus inReview o in
+      let c : Bool = is kindUnexecutable r && isOpen o in
+      let d : Bool = is kindRead r && (hasStatus scheduled o || hasStatus permitPending o) in
+      let e : Bool = is kindCancel r && reviewedOr scheduled in
+      or-either (a || b || c || d || e) (is kindReply r && hasStatus cancelPending o) t
+      (λ t. or-either (a || b || c || d) e t
+      (λ t. or-either (a || b || c) d t
+      (λ t. or-either (a || b) c t
+      (λ t. or-either a b t
+      (λ t. reviewed-or cancelPending refl (and-right (is kindScheduled r) (reviewedOr cancelPending) t))
+      (λ t. status-open inReview o refl (and-right (is kindPermit r && hasKind moveIn o) (hasStatus inReview o) t)))
+      (λ t. and-right (is kindUnexecutable r) (isOpen o) t))
+      (λ t. or-either (hasStatus scheduled o) (hasStatus permitPending o)
+      (and-right (is kindRead r) (hasStatus scheduled o || hasStatus permitPending o) t)
+      (status-open scheduled o refl) (status-open permitPending o refl)))
+      (λ t. reviewed-or scheduled refl (and-right (is kindCancel r) (reviewedOr scheduled) t)))
+      (λ t. status-open cancelPending o refl (and-right (is kindReply r) (hasStatus cancelPending o) t))

@@ -1,24 +1,24 @@
 -- What the layer above relies on about one premise, as statements; proofs/ proves each. The book opens none of the rules themselves. What
 -- every step leaves and gives is stated in `premise_laws`.
-use Prim.Native.Nat.{ℕ, _+_}
+use Prim.Native.Nat.{ℕ, _+_, _<_}
 use mathlib.Core.Path.{_≡_}
 use mathlib.Core.Logic.{_↔_}
 use mathlib.Core.List.{List, [], _∷_, _++_, map}
 use mathlib.Core.Option.{Option, none, some}
 use mathlib.Core.Bool.{true, false, cond}
 use lib.Dec.{eqb}
-use Rattle.lists.specs.Search.{anyOf}
+use Rattle.lists.specs.Search.{anyOf, countOf}
 use Rattle.records.specs.declared.Record.{Record}
-use Rattle.records.specs.Records.{kindCreate, kindRetire, kindDayMark}
+use Rattle.records.specs.Records.{kindCreate, kindRetire, kindNewOrder, kindDayMark}
 use Rattle.premise.specs.declared.Order.{Order}
 use Rattle.premise.specs.declared.File.{File}
 use Rattle.premise.specs.declared.Answer.{Answer}
 use Rattle.premise.specs.declared.Answer.the-variants.{Accepted, ShortBuffer, NotWellKept, MalformedRecord, NoSuchPremise}
 use Rattle.premise.specs.declared.Answer.the-variants.{PremiseHeld, BookFull, NotNextDay}
-use Rattle.premise.specs.Orders.{blankFile}
+use Rattle.premise.specs.Orders.{mostOrders, mostOfOne, isOpen, openOf, blankFile}
 use Rattle.premise.specs.Steps.{is}
 use Rattle.premise.specs.WellKept.{fileKept, fileBlank, FileKept}
-use Rattle.premise.specs.Refusals.{Row, number, needsPremise, premiseRows, orderRows, rows, firstRow, isHeld}
+use Rattle.premise.specs.Refusals.{Row, number, needsPremise, premiseRows, orderRows, rows, firstRow, fromRow, isHeld}
 use Rattle.premise.specs.OnePremise.{State, Given, accepted, refused, leaving, marked, step}
 
 -- ---- well kept
@@ -71,11 +71,18 @@ PremiseRowNumbers = (file : Option File) (r : Record) → rowNumbers (premiseRow
 abbrev pub OrderRowNumbers : Type 0
 OrderRowNumbers =
     (calendar : List ℕ) (today : ℕ) (os : List Order) (r : Record)
-    → rowNumbers (orderRows calendar today os r) ≡ 7 ∷ 8 ∷ 9 ∷ 10 ∷ 11 ∷ 12 ∷ 13 ∷ 14 ∷ 15 ∷ []
+    → rowNumbers (orderRows calendar today os r) ≡ 7 ∷ 8 ∷ 9 ∷ 10 ∷ 11 ∷ 26 ∷ 12 ∷ 13 ∷ 14 ∷ 15 ∷ []
 
 -- .. and of the answers that the book's own rows give.
 abbrev pub BookAnswers : Type 0
 BookAnswers = map number (ShortBuffer ∷ NotWellKept ∷ MalformedRecord ∷ BookFull ∷ []) ≡ 1 ∷ 2 ∷ 3 ∷ 6 ∷ []
+
+-- From 26 on none holds for a new order where fewer than 8 orders are open, and fewer than 4 of them its Q's.
+abbrev pub RoomFrom26 : Type 0
+RoomFrom26 =
+    (calendar : List ℕ) (today : ℕ) (os : List Order) (r : Record) → is kindNewOrder r ≡ true
+    → openOf (r .retailer) os < mostOfOne → countOf isOpen os < mostOrders
+    → anyOf (λ (x : Row). x .when) (fromRow 26 (orderRows calendar today os r)) ≡ false
 
 -- of all answers only a full book has the number 6, and the one-premise rules have no such row
 abbrev pub FullIsSix : Type 0

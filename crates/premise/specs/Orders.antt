@@ -4,6 +4,7 @@ use mathlib.Core.List.{List, _++_}
 use mathlib.Core.Bool.{Bool, not, _&&_, _||_}
 use lib.Dec.{eqb, leb}
 use lib.ListN.{length, take, replicate}
+use Rattle.lists.specs.Search.{countOf}
 use Rattle.records.specs.Records.{standardSwitch, selfSelectedSwitch}
 use Rattle.premise.specs.declared.BusinessDays.{BusinessDays}
 use Rattle.premise.specs.declared.CalendarDays.{CalendarDays}
@@ -48,6 +49,18 @@ isOpen o = leb inReview (o .status) && leb (o .status) cancelPending
 
 abbrev pub isClosed : Order → Bool
 isClosed o = not (isOpen o)
+
+-- Document 02, change 12. "No retailer ever has more than 4 open orders as Q at one premise."
+abbrev pub mostOfOne : ℕ
+mostOfOne = 4
+
+-- an open order of a retailer, its Q; of a drop that is the gaining one
+abbrev pub isOpenOf : ℕ → Order → Bool
+isOpenOf retailer o = isOpen o && eqb (o .submitter) retailer
+
+-- how many open orders a retailer has among some orders
+abbrev pub openOf : ℕ → List Order → ℕ
+openOf retailer os = countOf (isOpenOf retailer) os
 
 -- Switches: K 3 and 4.
 abbrev pub isSwitch : Order → Bool

@@ -12,7 +12,7 @@ use Rattle.premise.specs.Pieces.Document.{limits, reviews, permits, swit
 use Rattle.premise.specs.Pieces.Records.{created, ordered, scheduledOrPermitted, unexecuteds, readings, cancels, evaluations}
 use Rattle.premise.specs.Pieces.Clock.{reviewsEnd, permitsEnd, cancelsEnd}
 use Rattle.premise.specs.Pieces.Evaluation.{sameDay, drops, overtaken, losing}
-use Rattle.premise.specs.Pieces.Refusals.{firstIn, statuses, premises, dayLimits, stacks}
+use Rattle.premise.specs.Pieces.Refusals.{firstIn, statuses, premises, dayLimits, stacks, shares}
 use Rattle.premise.specs.Pieces.Kept.{keptOrders, keptFiles, numbers}
 
 abbrev pub pieces : List Piece
@@ -21,5 +21,5 @@ pieces =
     ++ created ++ ordered ++ scheduledOrPermitted ++ unexecuteds ++ readings ++ cancels ++ evaluations
     ++ reviewsEnd ++ permitsEnd ++ cancelsEnd
     ++ sameDay ++ drops ++ overtaken ++ losing
-    ++ firstIn ++ statuses ++ premises ++ dayLimits ++ stacks
+    ++ firstIn ++ statuses ++ premises ++ dayLimits ++ stacks ++ shares
     ++ keptOrders ++ keptFiles ++ numbers

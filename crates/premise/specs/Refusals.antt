@@ -1,5 +1,6 @@
 -- Document 01, "The book": the table of refusals. The rows of the one-premise rules, in its order: 4 and 5, which go by whether there is a
--- file, and 7 to 15. Row 3 goes by the record's bytes alone (`reading`); rows 1, 2 and 6 are the book's.
+-- file, and 7 to 15, with 26 of document 02, change 12, between 11 and 12. Row 3 goes by the record's bytes alone (`reading`); rows 1, 2
+-- and 6 are the book's.
 use Prim.Native.Nat.{ℕ, _+_}
 use mathlib.Core.List.{List, [], _∷_, _++_}
 use mathlib.Core.Option.{Option, none, some}
@@ -17,8 +18,9 @@ use Rattle.premise.specs.declared.File.{File}
 use Rattle.premise.specs.declared.Answer.{Answer}
 use Rattle.premise.specs.declared.Answer.the-variants.{Accepted, ShortBuffer, NotWellKept, MalformedRecord, NoSuchPremise}
 use Rattle.premise.specs.declared.Answer.the-variants.{PremiseHeld, BookFull, OrderOpen, ReferenceHeld, DayOutOfRange, NoSwitchDate}
-use Rattle.premise.specs.declared.Answer.the-variants.{NotFirstIn, StackFull, NoSuchOrder, StatusNotTaken, NotNextDay}
-use Rattle.premise.specs.Orders.{mostOrders, isOpen, held}
+use Rattle.premise.specs.declared.Answer.the-variants.{NotFirstIn, RetailerShareFull, StackFull, NoSuchOrder, StatusNotTaken}
+use Rattle.premise.specs.declared.Answer.the-variants.{NotNextDay}
+use Rattle.premise.specs.Orders.{mostOrders, mostOfOne, isOpen, openOf, held}
 use Rattle.premise.specs.Steps.{is, requestedDay, named, orderAt, taken}
 use Rattle.premise.specs.FirstIn.{notFirstIn}
 
@@ -36,6 +38,7 @@ number ReferenceHeld = 8
 number DayOutOfRange = 9
 number NoSwitchDate = 10
 number NotFirstIn = 11
+number RetailerShareFull = 26
 number StackFull = 12
 number NoSuchOrder = 13
 number StatusNotTaken = 14
@@ -53,6 +56,15 @@ row answer when = record { answer = answer; when = when }
 abbrev pub firstRow : List Row → Answer
 firstRow [] = Accepted
 firstRow (r ∷ rs) = cond (r .when) (r .answer) (firstRow rs)
+
+-- the rows of a table in front of the one with a number; and from it on
+abbrev pub inFrontOf : ℕ → List Row → List Row
+inFrontOf n [] = []
+inFrontOf n (r ∷ rs) = cond (eqb (number (r .answer)) n) [] (r ∷ inFrontOf n rs)
+
+abbrev pub fromRow : ℕ → List Row → List Row
+fromRow n [] = []
+fromRow n (r ∷ rs) = cond (eqb (number (r .answer)) n) (r ∷ rs) (fromRow n rs)
 
 -- Row 9: RD − T above 90 or below −270.
 abbrev pub mostAhead : ℕ
@@ -95,7 +107,8 @@ premiseRows file r =
     ∷ row PremiseHeld (is kindCreate r && isHeld file)
     ∷ []
 
--- rows 7 to 15, by the file's orders
+-- Rows 7 to 15, by the file's orders. Document 02, change 12: "26 when a new order's Q already has 4 or more open orders at the premise,
+-- after 11 and before 12; it is among the one-premise rows."
 unfoldable pub orderRows : List ℕ → ℕ → List Order → Record → List Row
 orderRows calendar today os r =
     row OrderOpen (is kindRetire r && anyOf isOpen os)
@@ -103,6 +116,7 @@ orderRows calendar today os r =
     ∷ row DayOutOfRange (is kindNewOrder r && limited (r .detail) && outOfRange today (requestedDay calendar today r))
     ∷ row NoSwitchDate (is kindNewOrder r && eqb (r .detail) standardSwitch && eqb (switchDate calendar today) noDay)
     ∷ row NotFirstIn (is kindNewOrder r && notFirstIn (r .detail) (requestedDay calendar today r) os)
+    ∷ row RetailerShareFull (is kindNewOrder r && leb mostOfOne (openOf (r .retailer) os))
     ∷ row StackFull (is kindNewOrder r && eqb (countOf isOpen os) mostOrders)
     ∷ row NoSuchOrder (namesOrder r
     && (isNothing (named r os) || is kindCancel r && not (eqb (r .retailer) (orderAt os (named r os) .submitter))))

@@ -2,8 +2,10 @@
 // section from document 01, with the set pieces. What the layer above may rely on is stated in specs/Laws.antt, and of the steps in
 // `premise_laws`. The crates `premise_file` to `premise_steps` do in code what the rules say.
 
-// How many orders a file holds at most.
+// How many orders a file holds at most, and how many open ones of one retailer.
 pub const MOST_ORDERS: usize = 8;
+
+pub const MOST_OF_ONE: usize = 4;
 
 // How many business days an order is counted to wait at most, and how many calendar days end Cancel Pending.
 pub const MOST_WAITED: u8 = 21;
@@ -62,7 +64,8 @@ pub struct File {
     pub orders: [Order; 8],
 }
 
-// What a call answers: a name for each row of document 01's table of refusals, and one for acceptance.
+// What a call answers: a name for each row of document 01's table of refusals, with the row of document 02's change 12, and one for
+// acceptance.
 pub enum Answer {
     Accepted,
     ShortBuffer,
@@ -76,6 +79,7 @@ pub enum Answer {
     DayOutOfRange,
     NoSwitchDate,
     NotFirstIn,
+    RetailerShareFull,
     StackFull,
     NoSuchOrder,
     StatusNotTaken,

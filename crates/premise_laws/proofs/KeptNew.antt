@@ -1,7 +1,8 @@
 -- Kind 3 leaves a well-kept file: the new order has its fields in range, since its record is well formed and there is a switch date where
--- it needs one; none of the others has its reference; and there is room, since not all eight are open. Assumes nothing.
-use Prim.Native.Nat.{ℕ, _≤_, _<_}
-use mathlib.Core.Path.{_≡_, refl, ap₂}
+-- it needs one; none of the others has its reference; and there is room, since not all eight are open. Its retailer had fewer than 4 open
+-- orders, and what goes to make room gives nobody more. Assumes nothing.
+use Prim.Native.Nat.{ℕ, _+_, _≤_, _<_}
+use mathlib.Core.Path.{_≡_, refl, ap, ap₂}
 use mathlib.Core.Logic.{_⊎_, inl, inr}
 use mathlib.Core.List.{List, [], _∷_, _++_}
 use mathlib.Core.Option.{some}
@@ -9,12 +10,13 @@ use mathlib.Core.Bool.{Bool, true, false, cond, not, _&&_, false≢true}
 use native.Mathlib.Omega.{arith}
 use lib.Dec.{eqb, leb}
 use lib.ListN.{length, length-append}
-use borrow.Author.Tests.{not-false, le-leb, eqb-true, eqb-false}
+use borrow.Author.Tests.{not-false, le-leb, leb-false, eqb-true, eqb-false}
 use Rattle.lists.specs.declared.Found.{Found}
 use Rattle.lists.specs.declared.Found.the-variants.{At, Nothing}
 use Rattle.lists.specs.Search.{anyOf, countOf, withoutFirst, Each}
 use Rattle.lists.proofs.TestLaws.{by-test, and-other}
 use Rattle.lists.proofs.SearchLaws.{each-append, each-without, any-without, none-found, length-without, count-most, some-fails}
+use Rattle.lists.proofs.SearchLaws.{count-append, count-without}
 use Rattle.days.specs.Days.{lastDay, noDay, isDay, isBusinessDay, switchDate}
 use Rattle.days.specs.Laws.{FirstStart, NoStart}
 use Rattle.days.proofs.Laws.{switch-date-is}
@@ -22,14 +24,14 @@ use Rattle.records.specs.declared.Record.{Record}
 use Rattle.records.specs.Records.{kindNewOrder, standardSwitch, unused, wellFormed}
 use Rattle.premise.specs.declared.Order.{Order}
 use Rattle.premise.specs.declared.File.{File}
-use Rattle.premise.specs.Orders.{mostOrders, isOpen, isClosed, held}
+use Rattle.premise.specs.Orders.{mostOrders, mostOfOne, isOpen, isOpenOf, openOf, isClosed, held}
 use Rattle.premise.specs.Clock.{mostWaited}
 use Rattle.premise.specs.Steps.{is, requestedDay, newOrder, makeRoom, ordered, named}
 use Rattle.premise.specs.WellKept.{distinct}
 use Rattle.premise.specs.Refusals.{isNothing}
-use Rattle.premise_laws.specs.Laws.{KeptFor}
+use Rattle.premise_laws.specs.Laws.{KeptFor, WithinShare}
 use Rattle.premise_laws.proofs.KeptOrders.{OrderKept, orders-facts}
-use Rattle.premise.proofs.KeptFiles.{held-few}
+use Rattle.premise.proofs.KeptFiles.{held-few, held-with}
 use Rattle.premise_laws.proofs.KeptReferences.{hasReference, distinct-without, distinct-more}
 use Rattle.premise_laws.proofs.KeptPasses.{header-of, kept-with}
 use Rattle.premise_laws.proofs.KeptRecords.{order-fits, NoRow}
@@ -122,3 +124,28 @@ module _ (calendar : List ℕ) (today : ℕ) (f : File) (r : Record) (w : wellFo
       (omega (arith, length-append (makeRoom os) (new ∷ []), few))
       (each-append OrderKept (makeRoom os) (new ∷ []) orders (new-kept, tt))
       (distinct-more (makeRoom os) new apart free)
+
+  pub ordered-share : (retailer : ℕ) → WithinShare retailer f → WithinShare retailer (ordered calendar today f r .file)
+  unfolding ordered
+  ordered-share retailer h =
+      rw (held-with f (makeRoom os ++ (new ∷ [])), count-append (isOpenOf retailer) (makeRoom os) (new ∷ []))
+      (go (eqb (r .retailer) retailer) refl)
+    where
+      os : List Order
+      os = held f
+
+      new : Order
+      new = newOrder calendar today r
+
+      left : openOf retailer (makeRoom os) ≤ openOf retailer os
+      left = room-by (λ xs. openOf retailer xs ≤ openOf retailer os) os (omega arith) (count-without (isOpenOf retailer) isClosed os)
+
+      fewer : openOf (r .retailer) os < mostOfOne
+      fewer = leb-false mostOfOne (openOf (r .retailer) os)
+          (and-other (is kindNewOrder r) (leb mostOfOne (openOf (r .retailer) os)) (n .shareFull) e)
+
+      go : (own : Bool) → eqb (r .retailer) retailer ≡ own → openOf retailer (makeRoom os) + (cond own 1 0 + 0) ≤ mostOfOne
+      go true q =
+          let same : openOf (r .retailer) os ≡ openOf retailer os = ap (λ (k : ℕ). openOf k os) (eqb-true (r .retailer) retailer q) in
+          omega (arith, left, fewer, same)
+      go false q = omega (arith, left, h)

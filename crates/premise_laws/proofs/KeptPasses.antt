@@ -1,37 +1,52 @@
--- A pass over a file's orders leaves them kept, with the references that they had, if its step does so for each; so do the clock and the
--- evaluation, and a day mark leaves a well-kept file. Assumes nothing.
+-- A pass over a file's orders leaves them kept, with the references that they had and no more of a retailer's open, if its step does so for
+-- each; so do the clock and the evaluation, and a day mark leaves a well-kept file. Assumes nothing.
 use Prim.Native.Nat.{ℕ, suc, _≤_}
 use mathlib.Core.Path.{_≡_, refl, sym, ap, ap₂, _∙_}
 use mathlib.Core.List.{List, [], _∷_}
-use mathlib.Core.Bool.{Bool, true}
+use mathlib.Core.Bool.{Bool, true, _&&_}
 use native.Mathlib.Omega.{arith}
+use lib.Dec.{eqb}
 use lib.ListN.{length, length-map}
 use Rattle.lists.specs.Search.{allOf, Each}
+use Rattle.lists.proofs.TestLaws.{and-left, and-right}
+use Rattle.lists.proofs.SearchLaws.{count-one}
 use Rattle.days.specs.Days.{isDay, isBusinessDay}
 use Rattle.days.specs.Window.{windowWidth, inWindow}
 use Rattle.records.specs.Records.{aPremise, aRetailerOrNone}
 use Rattle.premise.specs.declared.Order.{Order}
 use Rattle.premise.specs.declared.File.{File}
-use Rattle.premise.specs.Orders.{mostOrders, held, withOrders}
+use Rattle.premise.specs.Orders.{mostOrders, isOpen, isOpenOf, openOf, held, withOrders}
 use Rattle.premise.specs.Passes.{Change, Outcome, passFrom, andThen}
 use Rattle.premise.specs.Clock.{ticked, clock}
 use Rattle.premise.specs.Evaluation.{sameDaySwitch, sameDaySwitches, dropOnSwitchDay, dropsOnSwitchDays, permitOvertaken, permitsOvertaken}
 use Rattle.premise.specs.Evaluation.{lossNotice, lossNotices, evaluation, evaluated}
 use Rattle.premise.specs.WellKept.{orderKept, distinct}
 use Rattle.premise.specs.OnePremise.{marked}
-use Rattle.premise_laws.specs.Laws.{KeptFor, MarkKeeps}
+use Rattle.premise_laws.specs.Laws.{KeptFor, MarkKeeps, MarkKeepsShares}
 use Rattle.premise_laws.proofs.KeptOrders.{OrderKept, orders-facts, orders-test}
 use Rattle.premise_laws.proofs.KeptChanges.{Leaves, leaves-ticked, leaves-same-day, leaves-drop, leaves-overtaken, leaves-loss}
 use Rattle.premise.proofs.KeptFiles.{held-with, tidy-with, held-few}
 use Rattle.premise_laws.proofs.KeptReferences.{references, distinct-same}
 
--- orders afterwards: kept, with the references that they had
+-- an open order of a retailer was one before
+pub was-of : (retailer : ℕ) (o after : Order) → Leaves o after → isOpenOf retailer after ≡ true → isOpenOf retailer o ≡ true
+was-of retailer o after a e =
+    let here = and-left (isOpen after) (eqb (after .submitter) retailer) e in
+    let own = and-right (isOpen after) (eqb (after .submitter) retailer) e in
+    ap₂ (λ (x y : Bool). x && y) (a .wasOpen here) (ap (λ (n : ℕ). eqb n retailer) (sym (a .submitter)) ∙ own)
+
+-- orders afterwards: kept, with the references that they had, and no retailer has more of them open
 pub record LeavesAll (before after : List Order) : Type 0 where
   pub references : references after ≡ references before
+  pub open-of : (retailer : ℕ) → openOf retailer after ≤ openOf retailer before
   pub kept : Each OrderKept after
 
 pub leaves-then : (os next last : List Order) → LeavesAll os next → LeavesAll next last → LeavesAll os last
-leaves-then os next last a b = record { references = b .references ∙ a .references; kept = b .kept }
+leaves-then os next last a b = record {
+  references = b .references ∙ a .references;
+  open-of = λ retailer. omega (arith, a .open-of retailer, b .open-of retailer);
+  kept = b .kept;
+}
 
 pub same-many : (os after : List Order) → LeavesAll os after → length after ≡ length os
 same-many os after a =
@@ -40,12 +55,15 @@ same-many os after a =
 -- ---- a pass
 pub pass-leaves : (step : ℕ → Order → Change) → ((i : ℕ) (o : Order) → OrderKept o → Leaves o (step i o .order))
     → (i : ℕ) (os : List Order) → Each OrderKept os → LeavesAll os (passFrom step i os .orders)
-pass-leaves step s i [] k = record { references = refl; kept = tt }
+pass-leaves step s i [] k = record { references = refl; open-of = λ retailer. omega arith; kept = tt }
 pass-leaves step s i (o ∷ os) k =
     let here = s i o (k .0) in
     let rest = pass-leaves step s (suc i) os (k .1) in
     record {
       references = ap₂ (λ (n : ℕ) (ns : List ℕ). n ∷ ns) (here .reference) (rest .references);
+      open-of = λ retailer.
+          count-one (isOpenOf retailer) o (step i o .order) (was-of retailer o (step i o .order) here)
+          (openOf retailer (passFrom step (suc i) os .orders)) (openOf retailer os) (rest .open-of retailer);
       kept = (here .kept, rest .kept);
     }
 
@@ -115,25 +133,45 @@ kept-with premise f os h n k d =
       };
     }
 
--- with orders that have the references of those of a well-kept file; R and S may be others
-pub kept-after : (premise : ℕ) (f g : File) (os : List Order) → KeptFor premise f → HeaderKept premise g → LeavesAll (held f) os
-    → KeptFor premise (withOrders g os)
-kept-after premise f g os k h a =
-    kept-with premise g os h (omega (arith, same-many (held f) os a, held-few f (k .kept .tidy))) (a .kept)
-    (distinct-same (held f) os (a .references) (k .kept .references))
+-- a file afterwards: well kept, and no retailer has more open orders in it
+pub record LeavesFile (premise : ℕ) (before after : File) : Type 0 where
+  pub kept : KeptFor premise after
+  pub open-of : (retailer : ℕ) → openOf retailer (held after) ≤ openOf retailer (held before)
 
-pub evaluated-keeps : (calendar : List ℕ) (today : ℕ) (f : File) (premise : ℕ) → KeptFor premise f
-    → KeptFor premise (evaluated calendar today f .file)
-evaluated-keeps calendar today f premise k =
-    kept-after premise f f (evaluation (inWindow calendar windowWidth today) today (f .premise) (f .retailer) (held f) .orders) k
+file-then : (premise : ℕ) (f next last : File) → LeavesFile premise f next → LeavesFile premise next last → LeavesFile premise f last
+file-then premise f next last a b =
+    record { kept = b .kept; open-of = λ retailer. omega (arith, a .open-of retailer, b .open-of retailer) }
+
+-- with orders that have the references of those of a well-kept file; R and S may be others
+pub file-after : (premise : ℕ) (f g : File) (os : List Order) → KeptFor premise f → HeaderKept premise g → LeavesAll (held f) os
+    → LeavesFile premise f (withOrders g os)
+file-after premise f g os k h a = record {
+  kept = kept-with premise g os h (omega (arith, same-many (held f) os a, held-few f (k .kept .tidy))) (a .kept)
+      (distinct-same (held f) os (a .references) (k .kept .references));
+  open-of = λ retailer. rw (held-with g os) (a .open-of retailer);
+}
+
+pub evaluated-leaves : (calendar : List ℕ) (today : ℕ) (f : File) (premise : ℕ) → KeptFor premise f
+    → LeavesFile premise f (evaluated calendar today f .file)
+evaluated-leaves calendar today f premise k =
+    file-after premise f f (evaluation (inWindow calendar windowWidth today) today (f .premise) (f .retailer) (held f) .orders) k
     (header-of premise f k)
     (evaluation-leaves (inWindow calendar windowWidth today) today (f .premise) (f .retailer) (held f)
     (orders-facts (held f) (k .kept .orders)))
 
-pub mark-keeps : MarkKeeps
+pub mark-leaves : (calendar : List ℕ) (today : ℕ) (f : File) (premise : ℕ) → KeptFor premise f
+    → LeavesFile premise f (marked calendar today f .file)
 unfolding marked
-mark-keeps calendar today f premise k =
+mark-leaves calendar today f premise k =
     let after = clock calendar today (f .premise) (held f) .orders in
-    evaluated-keeps calendar today (withOrders f after) premise
-    (kept-after premise f f after k (header-of premise f k)
-    (clock-leaves calendar today (f .premise) (held f) (orders-facts (held f) (k .kept .orders))))
+    let a = file-after premise f f after k (header-of premise f k)
+    (clock-leaves calendar today (f .premise) (held f) (orders-facts (held f) (k .kept .orders))) in
+    file-then premise f (withOrders f after) (evaluated calendar today (withOrders f after) .file) a
+    (evaluated-leaves calendar today (withOrders f after) premise (a .kept))
+
+pub mark-keeps : MarkKeeps
+mark-keeps calendar today f premise k = mark-leaves calendar today f premise k .kept
+
+pub mark-keeps-shares : MarkKeepsShares
+mark-keeps-shares calendar today f retailer k h =
+    omega (arith, h, mark-leaves calendar today f (f .premise) (record { number = refl; kept = k }) .open-of retailer)

@@ -5,7 +5,7 @@ use mathlib.Core.Path.{_≡_, refl, sym, _∙_}
 use mathlib.Core.List.{List, [], _∷_}
 use mathlib.Core.Option.{Option}
 use mathlib.Core.Bool.{Bool, true, false, cond, not, _&&_, _||_, false≢true}
-use lib.Dec.{eqb}
+use lib.Dec.{eqb, leb}
 use borrow.Author.Tests.{eqb-true}
 use Rattle.lists.specs.Search.{anyOf, countOf, Each}
 use Rattle.lists.proofs.TestLaws.{pass-each}
@@ -15,7 +15,7 @@ use Rattle.records.specs.Records.{kindCreate, kindRetire, kindNewOrder, kindSch
 use Rattle.records.specs.Records.{aReference, aPremise, aRetailer, aRetailerOrNone, anOrderKind, orderDay, unused, wellFormed}
 use Rattle.records.proofs.ByKind.{formed-at}
 use Rattle.premise.specs.declared.File.{File}
-use Rattle.premise.specs.Orders.{mostOrders, isOpen}
+use Rattle.premise.specs.Orders.{mostOrders, mostOfOne, isOpen, openOf}
 use Rattle.premise.specs.Steps.{is, requestedDay, named, orderAt, taken}
 use Rattle.premise.specs.FirstIn.{notFirstIn}
 use Rattle.premise.specs.Refusals.{Row, number, firstRow, premiseRows, orderRows, rows, isHeld, ordersOf, isNothing, needsPremise}
@@ -78,6 +78,7 @@ pub record NoRow (calendar : List ℕ) (today : ℕ) (file : Option File) (r : R
   pub dayOutOfRange : (is kindNewOrder r && limited (r .detail) && outOfRange today (requestedDay calendar today r)) ≡ false
   pub noSwitchDate : (is kindNewOrder r && eqb (r .detail) standardSwitch && eqb (switchDate calendar today) noDay) ≡ false
   pub notFirst : (is kindNewOrder r && notFirstIn (r .detail) (requestedDay calendar today r) (ordersOf file)) ≡ false
+  pub shareFull : (is kindNewOrder r && leb mostOfOne (openOf (r .retailer) (ordersOf file))) ≡ false
   pub stackFull : (is kindNewOrder r && eqb (countOf isOpen (ordersOf file)) mostOrders) ≡ false
   pub noSuchOrder : (namesOrder r
       && (isNothing (named r (ordersOf file)) || is kindCancel r
@@ -90,7 +91,7 @@ pub no-row : (calendar : List ℕ) (today : ℕ) (file : Option File) (r : Recor
 unfolding premiseRows orderRows number
 no-row calendar today file r h =
     let k = none-held (rows calendar today file r)
-    (refl, (refl, (refl, (refl, (refl, (refl, (refl, (refl, (refl, (refl, (refl, tt))))))))))) h in
+    (refl, (refl, (refl, (refl, (refl, (refl, (refl, (refl, (refl, (refl, (refl, (refl, tt)))))))))))) h in
     record {
       noSuchPremise = k .0;
       premiseHeld = k .1 .0;
@@ -99,8 +100,9 @@ no-row calendar today file r h =
       dayOutOfRange = k .1 .1 .1 .1 .0;
       noSwitchDate = k .1 .1 .1 .1 .1 .0;
       notFirst = k .1 .1 .1 .1 .1 .1 .0;
-      stackFull = k .1 .1 .1 .1 .1 .1 .1 .0;
-      noSuchOrder = k .1 .1 .1 .1 .1 .1 .1 .1 .0;
-      statusNotTaken = k .1 .1 .1 .1 .1 .1 .1 .1 .1 .0;
-      notNextDay = k .1 .1 .1 .1 .1 .1 .1 .1 .1 .1 .0;
+      shareFull = k .1 .1 .1 .1 .1 .1 .1 .0;
+      stackFull = k .1 .1 .1 .1 .1 .1 .1 .1 .0;
+      noSuchOrder = k .1 .1 .1 .1 .1 .1 .1 .1 .1 .0;
+      statusNotTaken = k .1 .1 .1 .1 .1 .1 .1 .1 .1 .1 .0;
+      notNextDay = k .1 .1 .1 .1 .1 .1 .1 .1 .1 .1 .1 .0;
     }

@@ -1,5 +1,5 @@
--- What the layer above relies on about the steps of one premise, as statements; proofs/ proves each: every step leaves a well-kept file,
--- tells of that premise alone, and gives few notices.
+-- What the layer above relies on about the steps of one premise, as statements; proofs/ proves each: every step leaves a well-kept file, in
+-- which no retailer has more open orders than its share where none had, tells of that premise alone, and gives few notices.
 use Prim.Native.Nat.{ℕ, _+_, _*_, _≤_}
 use mathlib.Core.Path.{_≡_}
 use mathlib.Core.List.{List}
@@ -11,7 +11,7 @@ use Rattle.records.specs.declared.Record.{Record}
 use Rattle.records.specs.declared.Notice.{Notice}
 use Rattle.records.specs.Records.{kindDayMark, wellFormed}
 use Rattle.premise.specs.declared.File.{File}
-use Rattle.premise.specs.Orders.{mostOrders, held}
+use Rattle.premise.specs.Orders.{mostOrders, mostOfOne, openOf, held}
 use Rattle.premise.specs.Steps.{is}
 use Rattle.premise.specs.WellKept.{FileKept}
 use Rattle.premise.specs.OnePremise.{State, marked, step}
@@ -36,6 +36,24 @@ StepKeeps =
 
 abbrev pub MarkKeeps : Type 0
 MarkKeeps = (calendar : List ℕ) (today : ℕ) (f : File) (premise : ℕ) → KeptFor premise f → KeptFor premise (marked calendar today f .file)
+
+-- ---- document 02, change 12: no retailer fills a flat's stack
+-- a retailer has at most 4 open orders in a file
+abbrev pub WithinShare : ℕ → File → Type 0
+WithinShare retailer f = openOf retailer (held f) ≤ mostOfOne
+
+-- Every step by a well-formed record leaves such a file, or none, from a well-kept one. (`step` is total: a record of a kind that no row
+-- knows would be done as a cancel reply, and could open a closed order.)
+abbrev pub StepKeepsShares : Type 0
+StepKeepsShares =
+    (calendar : List ℕ) (s : State) (r : Record) (retailer : ℕ)
+    → wellFormed r ≡ true → Held FileKept (s .file)
+    → Held (WithinShare retailer) (s .file) → Held (WithinShare retailer) (step calendar s r .state .file)
+
+abbrev pub MarkKeepsShares : Type 0
+MarkKeepsShares =
+    (calendar : List ℕ) (today : ℕ) (f : File) (retailer : ℕ) → FileKept f
+    → WithinShare retailer f → WithinShare retailer (marked calendar today f .file)
 
 -- ---- the notices
 -- a notice of a premise

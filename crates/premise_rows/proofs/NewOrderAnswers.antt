@@ -4,7 +4,7 @@ use mathlib.Core.Path.{_≡_, refl, sym, ap, _∙_}
 use mathlib.Core.List.{List, [], _∷_}
 use mathlib.Core.Option.{some}
 use mathlib.Core.Bool.{Bool, true, false, cond, not, _&&_}
-use lib.Dec.{eqb}
+use lib.Dec.{eqb, leb}
 use Rattle.lists.specs.Search.{countOf}
 use Rattle.lists.specs.declared.Found.the-variants.{At, Nothing}
 use Rattle.days.specs.Days.{noDay, switchDate}
@@ -13,8 +13,9 @@ use Rattle.records.specs.Records.{kindNewOrder, standardSwitch}
 use Rattle.premise.specs.declared.Order.{Order}
 use Rattle.premise.specs.declared.File.{File}
 use Rattle.premise.specs.declared.Answer.{Answer}
-use Rattle.premise.specs.declared.Answer.the-variants.{Accepted, ReferenceHeld, DayOutOfRange, NoSwitchDate, NotFirstIn, StackFull}
-use Rattle.premise.specs.Orders.{mostOrders, isOpen, held}
+use Rattle.premise.specs.declared.Answer.the-variants.{Accepted, ReferenceHeld, DayOutOfRange, NoSwitchDate, NotFirstIn}
+use Rattle.premise.specs.declared.Answer.the-variants.{RetailerShareFull, StackFull}
+use Rattle.premise.specs.Orders.{mostOrders, mostOfOne, isOpen, openOf, held}
 use Rattle.premise.specs.Steps.{requestedDay, named}
 use Rattle.premise.specs.FirstIn.{notFirstIn}
 use Rattle.premise.specs.Refusals.{number, row, firstRow, premiseRows, orderRows, rows, limited, outOfRange, isNothing}
@@ -42,13 +43,18 @@ module _ (today : ℕ) (os : List Order) (r : Record) (requested : ℕ) where
         answer-late h = rw (n, near, dated, h)
 
         module _ (first : notFirstIn (r .detail) requested os ≡ false) where
-          pub answer-full : eqb (countOf isOpen os) mostOrders ≡ true → StackFull ≡ orderAnswer today os r requested
+          pub answer-share : leb mostOfOne (openOf (r .retailer) os) ≡ true → RetailerShareFull ≡ orderAnswer today os r requested
           unfolding orderAnswer
-          answer-full h = rw (n, near, dated, first, h)
+          answer-share h = rw (n, near, dated, first, h)
 
-          pub answer-accepted : eqb (countOf isOpen os) mostOrders ≡ false → Accepted ≡ orderAnswer today os r requested
-          unfolding orderAnswer
-          answer-accepted h = rw (n, near, dated, first, h)
+          module _ (few : leb mostOfOne (openOf (r .retailer) os) ≡ false) where
+            pub answer-full : eqb (countOf isOpen os) mostOrders ≡ true → StackFull ≡ orderAnswer today os r requested
+            unfolding orderAnswer
+            answer-full h = rw (n, near, dated, first, few, h)
+
+            pub answer-accepted : eqb (countOf isOpen os) mostOrders ≡ false → Accepted ≡ orderAnswer today os r requested
+            unfolding orderAnswer
+            answer-accepted h = rw (n, near, dated, first, few, h)
 
 -- ---- an accepted order finds room
 pub accepted-free : (today : ℕ) (os : List Order) (r : Record) (requested : ℕ) → eqb (number (orderAnswer today os r requested)) 0 ≡ true
@@ -60,20 +66,22 @@ accepted-free today os r requested h =
     (limited (r .detail) && outOfRange today requested)
     (eqb (r .detail) standardSwitch && eqb requested noDay)
     (notFirstIn (r .detail) requested os)
+    (leb mostOfOne (openOf (r .retailer) os))
     (eqb (countOf isOpen os) mostOrders)
     h
   where
-    go : (taken far dateless late full : Bool)
+    go : (taken far dateless late many full : Bool)
         → eqb (number (firstRow
-        (row ReferenceHeld taken ∷ row DayOutOfRange far ∷ row NoSwitchDate dateless ∷ row NotFirstIn late ∷ row StackFull full ∷ [])))
-        0 ≡ true
+        (row ReferenceHeld taken ∷ row DayOutOfRange far ∷ row NoSwitchDate dateless ∷ row NotFirstIn late ∷ row RetailerShareFull many
+        ∷ row StackFull full ∷ []))) 0 ≡ true
         → full ≡ false
-    go taken far dateless late false h = refl
-    go true far dateless late true h = cc
-    go false true dateless late true h = cc
-    go false false true late true h = cc
-    go false false false true true h = cc
-    go false false false false true h = cc
+    go taken far dateless late many false h = refl
+    go true far dateless late many true h = cc
+    go false true dateless late many true h = cc
+    go false false true late many true h = cc
+    go false false false true many true h = cc
+    go false false false false true true h = cc
+    go false false false false false true h = cc
 
 -- ---- these rows are those of the table
 -- a standard switch has no date where its requested day is none
@@ -95,6 +103,7 @@ rowsWith today os r requested missing =
     ∷ row DayOutOfRange (limited (r .detail) && outOfRange today requested)
     ∷ row NoSwitchDate missing
     ∷ row NotFirstIn (notFirstIn (r .detail) requested os)
+    ∷ row RetailerShareFull (leb mostOfOne (openOf (r .retailer) os))
     ∷ row StackFull (eqb (countOf isOpen os) mostOrders)
     ∷ [])
 

@@ -1,4 +1,4 @@
-// The rows of document 01's table that go by a file's orders: those of a new order and those of a record that names one; the number of an
+// The rows of the table of refusals that go by a file's orders: those of a new order and those of a record that names one; the number of an
 // answer.
 mod first_in;
 mod named_rows;

@@ -1,4 +1,4 @@
-// The answer to a new order, by rows 8 to 12.
+// The answer to a new order, by rows 8 to 12, with 26 between 11 and 12.
 ghost use mathlib.Core.Path.{_≡_};
 ghost use mathlib.Core.Bool.{_&&_};
 ghost use Rattle.premise.specs.Orders.{held};
@@ -28,7 +28,7 @@ fn is_too_far(today: u16, kind: u8, requested: u16) -> bool
         & ((now + MOST_AHEAD < day) | (day + MOST_BACK < now))
 }
 
-// The answer to a new order for a day: rows 8 to 12, in their order.
+// The answer to a new order for a day: rows 8 to 11, 26 and 12, in their order.
 pub fn new_order_answer(today: u16, file: File, r: Record, requested: u16) -> Answer
     requires { ⌜ Tidy file ⌝ }
     ensures { λ a. ⌜ a ≡ orderAnswer today (held file) r requested ⌝ }
@@ -49,6 +49,9 @@ pub fn new_order_answer(today: u16, file: File, r: Record, requested: u16) -> An
     }
     if crate::first_in::not_first_in(file, kind, requested) {
         return Answer::NotFirstIn;
+    }
+    if premise_file::is_share_full(file, r.retailer) {
+        return Answer::RetailerShareFull;
     }
     if premise_file::is_full(file) {
         return Answer::StackFull;

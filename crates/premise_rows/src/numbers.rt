@@ -1,4 +1,4 @@
-// The number that document 01's table gives each answer, for whoever prints or stores one.
+// The number that the table of refusals gives each answer, for whoever prints or stores one.
 ghost use mathlib.Core.Path.{_≡_};
 ghost use Rattle.premise.specs.Refusals.{number};
 use premise::Answer;
@@ -20,6 +20,7 @@ pub fn number_of(answer: Answer) -> u8
         Answer::DayOutOfRange => 9,
         Answer::NoSwitchDate => 10,
         Answer::NotFirstIn => 11,
+        Answer::RetailerShareFull => 26,
         Answer::StackFull => 12,
         Answer::NoSuchOrder => 13,
         Answer::StatusNotTaken => 14,

@@ -49,7 +49,7 @@ fn accept_order(
     premise_evaluation::evaluate(calendar, today, last, f, sent, buffer)
 }
 
-// Kind 3 on a file: rows 8 to 12, then acceptance.
+// Kind 3 on a file: rows 8 to 11, 26 and 12, then acceptance.
 pub fn on_new_order(
     calendar: &[u8],
     today: u16,

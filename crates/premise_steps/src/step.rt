@@ -8,7 +8,8 @@ use premise::PremiseAfter;
 use records::Record;
 use records::record_kind;
 
-// Kinds 3 to 9 on a file: those that name an order, and new order. Rows 8 to 14 in their order, then what its kind does.
+// Kinds 3 to 9 on a file: those that name an order, and new order. Rows 8 to 14, and 26 between 11 and
+// 12, in their order, then what its kind does.
 pub fn on_file(
     calendar: &[u8],
     today: u16,

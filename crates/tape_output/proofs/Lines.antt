@@ -15,7 +15,7 @@ use Rattle.premise.specs.declared.File.{File}
 use Rattle.premise.specs.declared.Answer.{Answer}
 use Rattle.premise.specs.declared.Answer.the-variants.{Accepted, ShortBuffer, NotWellKept, MalformedRecord, NoSuchPremise, PremiseHeld}
 use Rattle.premise.specs.declared.Answer.the-variants.{BookFull, OrderOpen, ReferenceHeld, DayOutOfRange, NoSwitchDate, NotFirstIn}
-use Rattle.premise.specs.declared.Answer.the-variants.{StackFull, NoSuchOrder, StatusNotTaken, NotNextDay}
+use Rattle.premise.specs.declared.Answer.the-variants.{RetailerShareFull, StackFull, NoSuchOrder, StatusNotTaken, NotNextDay}
 use Rattle.premise.specs.Refusals.{number}
 use Rattle.premise.specs.WellKept.{FileKept}
 use Rattle.book.specs.Book.{filesOf}
@@ -44,6 +44,7 @@ number-most ReferenceHeld = omega arith
 number-most DayOutOfRange = omega arith
 number-most NoSwitchDate = omega arith
 number-most NotFirstIn = omega arith
+number-most RetailerShareFull = omega arith
 number-most StackFull = omega arith
 number-most NoSuchOrder = omega arith
 number-most StatusNotTaken = omega arith

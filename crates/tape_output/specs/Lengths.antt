@@ -9,7 +9,7 @@ use Rattle.tape_text.specs.Text.{recordLine, noticeLine, fileLine, totalLine}
 
 -- the last number of the table of answers
 abbrev pub lastAnswer : ℕ
-lastAnswer = 15
+lastAnswer = 26
 
 -- a call gives at most so many notices
 abbrev pub mostNotices : ℕ

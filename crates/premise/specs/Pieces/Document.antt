@@ -14,18 +14,21 @@ use Rattle.premise.specs.Passes.{codeOrder, codeScheduled, codeLosing, c
 use Rattle.premise.specs.Pieces.Forms.{Piece, piece, answered, tells, leaves, plays, daily, onDays, line, sent, nothing, state}
 use Rattle.premise.specs.Pieces.Forms.{stands, create, order, schedule, permit, unexecuted, read, cancel, marks, business}
 
--- eight open orders, references 1 to 8: drops, which no limit of days refuses
+-- a drop with a reference, by its retailer: no limit of days refuses it
+abbrev dropped : ℕ → ℕ → Record
+dropped reference retailer = order massTransitionDrop 5 reference retailer
+
+-- eight open orders, references 1 to 8, held by two retailers
 abbrev eight : List Record
 eight =
     create 0 101
-    ∷ order massTransitionDrop 5 1 202 ∷ order massTransitionDrop 5 2 202 ∷ order massTransitionDrop 5 3 202
-    ∷ order massTransitionDrop 5 4 202
-    ∷ order massTransitionDrop 5 5 202 ∷ order massTransitionDrop 5 6 202 ∷ order massTransitionDrop 5 7 202
-    ∷ order massTransitionDrop 5 8 202
+    ∷ dropped 1 202 ∷ dropped 2 202 ∷ dropped 3 202 ∷ dropped 4 202
+    ∷ dropped 5 203 ∷ dropped 6 203 ∷ dropped 7 203 ∷ dropped 8 203
     ∷ []
 
-abbrev aDrop : ℕ → Order
-aDrop reference = stands reference massTransitionDrop 202 5 noDay inReview 1 0 0
+-- a drop as it stands: reference and retailer
+abbrev aDrop : ℕ → ℕ → Order
+aDrop reference retailer = stands reference massTransitionDrop retailer 5 noDay inReview 1 0 0
 
 -- days of kind 2 from 38 up to one before a day: from 38 that day is the switch date
 abbrev closed : ℕ → List ℕ
@@ -70,12 +73,11 @@ limits =
     ∷ piece "c, switch date 41" (answered (closed 3) (nothing 38)
     (create 0 101 ∷ order standardSwitch 0 1 202 ∷ schedule 1 40 ∷ order standardSwitch 0 2 203 ∷ [])
     (0 ∷ 0 ∷ 0 ∷ 0 ∷ []))
-    ∷ piece "e, the answers" (answered (business 20) (nothing 10)
-    (eight ++ (order massTransitionDrop 5 9 202 ∷ unexecuted 3 ∷ order massTransitionDrop 5 9 202 ∷ []))
-    (0 ∷ 0 ∷ 0 ∷ 0 ∷ 0 ∷ 0 ∷ 0 ∷ 0 ∷ 0 ∷ 12 ∷ 0 ∷ 0 ∷ []))
-    ∷ piece "e, the one closed gone" (leaves (business 20) (nothing 10)
-    (eight ++ (unexecuted 3 ∷ order massTransitionDrop 5 9 202 ∷ []))
-    (state 10 101 0 (aDrop 1 ∷ aDrop 2 ∷ aDrop 4 ∷ aDrop 5 ∷ aDrop 6 ∷ aDrop 7 ∷ aDrop 8 ∷ aDrop 9 ∷ [])))
+    ∷ piece "e, the stack held by two retailers and met by a third (document 02, change 12)" (answered (business 20) (nothing 10)
+    (eight ++ (dropped 9 204 ∷ dropped 9 202 ∷ dropped 9 203 ∷ unexecuted 3 ∷ dropped 9 203 ∷ dropped 9 204 ∷ dropped 10 202 ∷ []))
+    (replicate 9 0 ++ (12 ∷ 26 ∷ 26 ∷ 0 ∷ 26 ∷ 0 ∷ 12 ∷ [])))
+    ∷ piece "e, the one closed gone" (leaves (business 20) (nothing 10) (eight ++ (unexecuted 3 ∷ dropped 9 204 ∷ []))
+    (state 10 101 0 (aDrop 1 202 ∷ aDrop 2 202 ∷ aDrop 4 202 ∷ aDrop 5 203 ∷ aDrop 6 203 ∷ aDrop 7 203 ∷ aDrop 8 203 ∷ aDrop 9 204 ∷ [])))
     ∷ []
 
 -- f. Unanswered move in, RD and arrival day 50: Cancel Pending at 52, still at 58, Cancelled at 59.

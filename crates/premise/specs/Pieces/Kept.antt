@@ -11,7 +11,8 @@ use Rattle.premise.specs.declared.Order.{Order}
 use Rattle.premise.specs.declared.File.{File}
 use Rattle.premise.specs.declared.Answer.the-variants.{Accepted, ShortBuffer, NotWellKept, MalformedRecord, NoSuchPremise}
 use Rattle.premise.specs.declared.Answer.the-variants.{PremiseHeld, BookFull, OrderOpen, ReferenceHeld, DayOutOfRange, NoSwitchDate}
-use Rattle.premise.specs.declared.Answer.the-variants.{NotFirstIn, StackFull, NoSuchOrder, StatusNotTaken, NotNextDay}
+use Rattle.premise.specs.declared.Answer.the-variants.{NotFirstIn, RetailerShareFull, StackFull, NoSuchOrder, StatusNotTaken}
+use Rattle.premise.specs.declared.Answer.the-variants.{NotNextDay}
 use Rattle.premise.specs.Orders.{inReview, permitPending, scheduled, cancelPending, complete, cancelled, unexecutable, noRetailer}
 use Rattle.premise.specs.Orders.{blankFile}
 use Rattle.premise.specs.Passes.{codeOrder, codeMoveOut, codeScheduled, codeLosing, codeCancel, codePermit, codeUnexecutable}
@@ -161,11 +162,12 @@ numbers =
     (numbered (moveIn ∷ moveOut ∷ standardSwitch ∷ selfSelectedSwitch ∷ massTransitionDrop ∷ replyAccept ∷ replyReject ∷ tdsp ∷ noRetailer
     ∷ noDay ∷ [])
     (1 ∷ 2 ∷ 3 ∷ 4 ∷ 5 ∷ 1 ∷ 2 ∷ 0 ∷ 0 ∷ 4096 ∷ []))
-    ∷ piece "answers 0 to 15"
+    ∷ piece "answers 0 to 15 and 26"
     (numbered (number Accepted ∷ number ShortBuffer ∷ number NotWellKept ∷ number MalformedRecord ∷ number NoSuchPremise
     ∷ number PremiseHeld ∷ number BookFull ∷ number OrderOpen ∷ number ReferenceHeld ∷ number DayOutOfRange ∷ number NoSwitchDate
-    ∷ number NotFirstIn ∷ number StackFull ∷ number NoSuchOrder ∷ number StatusNotTaken ∷ number NotNextDay ∷ [])
-    (0 ∷ 1 ∷ 2 ∷ 3 ∷ 4 ∷ 5 ∷ 6 ∷ 7 ∷ 8 ∷ 9 ∷ 10 ∷ 11 ∷ 12 ∷ 13 ∷ 14 ∷ 15 ∷ []))
+    ∷ number NotFirstIn ∷ number StackFull ∷ number NoSuchOrder ∷ number StatusNotTaken ∷ number NotNextDay
+    ∷ number RetailerShareFull ∷ [])
+    (0 ∷ 1 ∷ 2 ∷ 3 ∷ 4 ∷ 5 ∷ 6 ∷ 7 ∷ 8 ∷ 9 ∷ 10 ∷ 11 ∷ 12 ∷ 13 ∷ 14 ∷ 15 ∷ 26 ∷ []))
     ∷ piece "they start with the start day and no file" (leaves plain (startState 10) [] (nothing 10))
     ∷ piece "they start at 4,095 if it is above" (numbered (startState 4095 .today ∷ startState 4096 .today ∷ []) (4095 ∷ 4095 ∷ []))
     ∷ []

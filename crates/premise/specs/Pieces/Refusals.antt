@@ -1,6 +1,6 @@
 -- Document 01, "Not first in" and the table of refusals: each row's condition on both sides, and the rows that can meet. T is 10 unless
 -- said.
-use Prim.Native.Nat.{ℕ}
+use Prim.Native.Nat.{ℕ, _+_}
 use mathlib.Core.List.{List, [], _∷_, _++_, map}
 use lib.ListN.{replicate}
 use Rattle.days.specs.Days.{noDay}
@@ -186,4 +186,32 @@ stacks =
     (order moveIn 12 1 202 ∷ create 0 101 ∷ create 0 101 ∷ order moveIn 12 1 202 ∷ order moveOut 14 1 202 ∷ retire
     ∷ schedule 2 12 ∷ cancel 1 203 ∷ mark 10 ∷ mark 12 ∷ mark 11 ∷ unexecuted 1 ∷ cancel 1 203 ∷ retire ∷ retire ∷ [])
     (4 ∷ 0 ∷ 5 ∷ 0 ∷ 8 ∷ 7 ∷ 13 ∷ 13 ∷ 15 ∷ 15 ∷ 0 ∷ 0 ∷ 13 ∷ 0 ∷ 4 ∷ []))
+    ∷ []
+
+-- ---- document 02, change 12
+-- four orders of 202, open in each status and with drops among them; the status of the last
+abbrev four : ℕ → List Order
+four status =
+    stands 11 moveIn 202 13 noDay permitPending 1 0 0 ∷ stands 12 selfSelectedSwitch 202 13 15 scheduled 1 0 0
+    ∷ stands 13 massTransitionDrop 202 13 noDay cancelPending 1 0 0 ∷ stands 14 moveOut 202 13 15 status 1 0 0
+    ∷ []
+
+-- four move ins of 202, the first of them Scheduled for 30
+abbrev moveIns : List Order
+moveIns =
+    stands 1 moveIn 202 13 30 scheduled 1 0 0
+    ∷ map (λ (reference : ℕ). stands reference moveIn 202 (reference + 12) noDay inReview 1 0 0) (2 ∷ 3 ∷ 4 ∷ [])
+
+unfoldable pub shares : List Piece
+shares =
+    piece "26: a fifth of each kind" (asked plain (state 10 101 5 (four inReview)) news (replicate 5 26))
+    ∷ piece "26: not with three open and one closed" (asked plain (state 10 101 5 (four complete)) news allTaken)
+    ∷ piece "26: 8, 9 and 11 come before it, and another retailer is let in" (asked plain (state 10 101 5 moveIns)
+    (order moveIn 40 1 202 ∷ order moveIn 101 9 202 ∷ order moveIn 30 9 202 ∷ order moveIn 40 9 202 ∷ order moveIn 40 9 203 ∷ [])
+    (8 ∷ 9 ∷ 11 ∷ 26 ∷ 0 ∷ []))
+    ∷ piece "26: 10 comes before it" (asked (business 1) (state 4095 101 5 moveIns) (order standardSwitch 0 9 202 ∷ []) (10 ∷ []))
+    ∷ piece "26: until a cancel is accepted" (answered plain (state 10 101 5 moveIns)
+    (cancel 2 202 ∷ order moveIn 40 10 202 ∷ reply replyAccept 2 ∷ order moveIn 40 10 202 ∷ []) (0 ∷ 26 ∷ 0 ∷ 0 ∷ []))
+    ∷ piece "26: five or more open, in a book that was handed in" (asked plain
+    (state 10 101 5 (moveIns ++ (stands 5 moveOut 202 13 noDay inReview 1 0 0 ∷ []))) (order moveIn 40 9 202 ∷ []) (26 ∷ []))
     ∷ []

@@ -1,4 +1,4 @@
--- What a new order gives, by the answer that was found for it: rows 8 to 12, or acceptance. Assumes nothing.
+-- What a new order gives, by the answer that was found for it: rows 8 to 11, 26 and 12, or acceptance. Assumes nothing.
 use Prim.Native.Nat.{ℕ}
 use mathlib.Core.Path.{_≡_, sym, ap, _∙_}
 use mathlib.Core.List.{List}

@@ -3,7 +3,8 @@
 use mathlib.Core.Path.{sym, _∙_}
 use borrow.Author.Needs.{needs}
 use Rattle.premise.specs.Orders.{held}
-use Rattle.premise_rows.proofs.NewOrderAnswers.{answer-held, answer-far, answer-dateless, answer-late, answer-full, answer-accepted}
+use Rattle.premise_rows.proofs.NewOrderAnswers.{answer-held, answer-far, answer-dateless, answer-late, answer-share, answer-full}
+use Rattle.premise_rows.proofs.NewOrderAnswers.{answer-accepted}
 use Rattle.premise_rows.proofs.new_order_rows.new_order_answer.Statement.{statement}
 use Rattle.premise_rows.proofs.new_order_rows.new_order_answer.Tie as tie
 
@@ -63,13 +64,35 @@ returns-4 c =
     (k2 .if2 .left)
     (sym (v .not-first-in .ensures) ∙ c .if3 .taken)
 
-is-full-requires : tie.Need-is-full-requires
-is-full-requires c κs = search needs
+is-share-full-requires : tie.Need-is-share-full-requires
+is-share-full-requires c κs = search needs
 
 returns-5 : tie.Need-returns-5
 returns-5 c =
+    let y = c .before in
+    let k3 = y .before in
+    let v = k3 .before in
+    let k2 = v .before in
+    let k1 = k2 .before in
+    let t = k1 .before in
+    let n = t .before in
+    let w = n .before .before in
+    let a = w .before .args in
+    answer-share (a .today) (held (a .file)) (a .r) (a .requested) (sym (w .find .ensures) ∙ n .enum-told2 .given .1)
+    (sym (t .is-too-far .ensures) ∙ k1 .if1 .left)
+    (k2 .if2 .left)
+    (sym (v .not-first-in .ensures) ∙ k3 .if3 .left)
+    (sym (y .is-share-full .ensures) ∙ c .if4 .taken)
+
+is-full-requires : tie.Need-is-full-requires
+is-full-requires c κs = search needs
+
+returns-6 : tie.Need-returns-6
+returns-6 c =
     let x = c .before in
-    let k3 = x .before in
+    let k4 = x .before in
+    let y = k4 .before in
+    let k3 = y .before in
     let v = k3 .before in
     let k2 = v .before in
     let k1 = k2 .before in
@@ -81,12 +104,15 @@ returns-5 c =
     (sym (t .is-too-far .ensures) ∙ k1 .if1 .left)
     (k2 .if2 .left)
     (sym (v .not-first-in .ensures) ∙ k3 .if3 .left)
-    (sym (x .is-full .ensures) ∙ c .if4 .taken)
+    (sym (y .is-share-full .ensures) ∙ k4 .if4 .left)
+    (sym (x .is-full .ensures) ∙ c .if5 .taken)
 
-returns-6 : tie.Need-returns-6
-returns-6 c =
+returns-7 : tie.Need-returns-7
+returns-7 c =
     let x = c .before in
-    let k3 = x .before in
+    let k4 = x .before in
+    let y = k4 .before in
+    let k3 = y .before in
     let v = k3 .before in
     let k2 = v .before in
     let k1 = k2 .before in
@@ -98,7 +124,8 @@ returns-6 c =
     (sym (t .is-too-far .ensures) ∙ k1 .if1 .left)
     (k2 .if2 .left)
     (sym (v .not-first-in .ensures) ∙ k3 .if3 .left)
-    (sym (x .is-full .ensures) ∙ c .if4 .left)
+    (sym (y .is-share-full .ensures) ∙ k4 .if4 .left)
+    (sym (x .is-full .ensures) ∙ c .if5 .left)
 
 pub new-order-answer-spec : {M : Type 1} → statement M
 new-order-answer-spec =
@@ -113,6 +140,8 @@ new-order-answer-spec =
     returns-3
     not-first-in-requires
     returns-4
-    is-full-requires
+    is-share-full-requires
     returns-5
-    returns-6)
+    is-full-requires
+    returns-6
+    returns-7)

@@ -12,4 +12,6 @@ pub mod OneCall
 pub mod Picks
 pub mod Rearranged
 pub mod Sample
+pub mod Shares
+pub mod SharesSample
 pub mod Tapes

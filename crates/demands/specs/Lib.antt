@@ -7,4 +7,6 @@ pub mod Fleet
 pub mod LastDay
 pub mod Rearranged
 pub mod Sample
+pub mod Shares
+pub mod SharesSample
 pub mod Tapes

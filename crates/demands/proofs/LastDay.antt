@@ -1,15 +1,17 @@
 -- What comes back on the last day, from the demands: the calls that are played by definition stand for all that are made of their tape.
 -- Assumes nothing.
-use Prim.Native.Nat.{ℕ}
+use Prim.Native.Nat.{ℕ, _≤_}
 use mathlib.Core.Path.{_≡_, refl, ap, sym, _∙_}
 use mathlib.Core.List.{List, [], _∷_, _++_, map}
-use mathlib.Core.Bool.{Bool, true, false}
+use mathlib.Core.Bool.{Bool, true, false, cond}
 use native.Mathlib.Omega.{arith}
 use lib.Dec.{eqb}
+use lib.ListN.{length}
 use borrow.Author.Tests.{eqb-true}
 use Rattle.days.specs.Days.{kindOfDay, isBusinessDay, switchDate}
 use Rattle.days.specs.Window.{businessDays, inWindow}
-use Rattle.records.specs.Layout.{fieldOf}
+use Rattle.lists.specs.Search.{Each}
+use Rattle.records.specs.Layout.{premiseField, fieldOf}
 use Rattle.records.specs.Records.{wellFormed, reading}
 use Rattle.records.specs.Notices.{encode, rows}
 use Rattle.premise.specs.Orders.{places}
@@ -22,14 +24,16 @@ use Rattle.premise.specs.FirstIn.{refuses, standsInWay, notFirstIn}
 use Rattle.premise.specs.WellKept.{orderKept, isBlank, fileKept, fileBlank}
 use Rattle.premise.specs.Refusals.{number, premiseRows, orderRows}
 use Rattle.premise.specs.OnePremise.{marked, stepped, step, startState, runs}
+use Rattle.book.specs.declared.Book.{Book}
 use Rattle.book.specs.Book.{freshBook, bookOf, bookKept, fileFor, putIn, takenOut}
-use Rattle.book.specs.Calls.{callRows, call}
-use Rattle.demands.specs.Demand3.{Made, lastBook, Premise, records, withPremise, noticesFor, ruledNotices}
+use Rattle.book.specs.Calls.{noticeBytes, callRows, call}
+use Rattle.demands.specs.Demand3.{Made, Played, lastBook, Premise, records, withPremise, noticesFor, ruledNotices}
 use Rattle.demands.specs.Sample.{lent, made, plays}
-use Rattle.demands.specs.Tapes.{Plays, ownOf}
+use Rattle.demands.specs.Tapes.{Plays, tapeOf, ownOf}
 use Rattle.demands.specs.Rearranged.{NobodySees}
 use Rattle.demands.specs.LastDay.{create7, create5, switch7, switch5, scheduled7, scheduled5, mark, retire6, oneByte}
-use Rattle.demands.specs.LastDay.{notices7, notices5, switchOf, fileOf, rowsOf, OnTheLastDay, tape, answers₁}
+use Rattle.demands.specs.LastDay.{notices7, notices5, switchOf, fileOf, Call, OneByOne, bookAfter, rowsOf, naming, OnTheLastDay}
+use Rattle.demands.specs.LastDay.{tape, answers₁}
 use Rattle.demands.specs.LastDay.{tape₂, answers₂, tape₃, answers₃, LastDay}
 use Rattle.demands.proofs.Picks.{pick-append}
 use Rattle.demands.proofs.ByDefinition.{Short, short-plays, by-definition}
@@ -69,38 +73,75 @@ computed = record {
   ruled = record { of7 = refl; of5 = refl; of6 = refl; book = refl };
 }
 
+-- ---- the calls, as demand 3 has them
+abbrev asMade : Call → Made
+asMade c = record { bytes = c .bytes; lent = c .lent; reply = c .reply; after = c .after }
+
+abbrev allMade : List Call → List Made
+allMade cs = map asMade cs
+
+made-played : (b : Book) (cs : List Call) → OneByOne b cs → Played [] b (allMade cs)
+made-played b [] p = tt
+made-played b (c ∷ cs) p = (p .0, made-played (c .reply .book) cs (p .1))
+
+made-room : (cs : List Call) → Each (λ (c : Call). noticeBytes ≤ length (c .lent)) cs
+    → Each (λ (m : Made). noticeBytes ≤ length (m .lent)) (allMade cs)
+made-room [] h = tt
+made-room (c ∷ cs) h = (h .0, made-room cs (h .1))
+
+made-tape : (cs : List Call) → tapeOf (allMade cs) ≡ map (λ (c : Call). c .bytes) cs
+made-tape [] = refl
+made-tape (c ∷ cs) = ap (λ (l : List (List ℕ)). c .bytes ∷ l) (made-tape cs)
+
+made-answers : (cs : List Call)
+    → map (λ (c : Call). number (c .reply .answer)) cs ≡ map (λ (m : Made). number (m .reply .answer)) (allMade cs)
+made-answers [] = refl
+made-answers (c ∷ cs) = ap (λ (l : List ℕ). number (c .reply .answer) ∷ l) (made-answers cs)
+
+made-book : (b : Book) (cs : List Call) → bookAfter b cs ≡ lastBook b (allMade cs)
+made-book b [] = refl
+made-book b (c ∷ cs) = made-book (c .reply .book) cs
+
 -- ---- what comes back
-picked : (premise : ℕ) (ms : List Made) → withPremise premise (rowsOf ms) ≡ noticesFor premise ms
+naming-is : (premise : ℕ) (notices : List (List ℕ)) → naming premise notices ≡ withPremise premise notices
+naming-is premise [] = refl
+naming-is premise (row ∷ others) =
+    ap (λ (l : List (List ℕ)). cond (eqb (fieldOf premiseField row) premise) (row ∷ l) l) (naming-is premise others)
+
+picked : (premise : ℕ) (cs : List Call) → withPremise premise (rowsOf cs) ≡ noticesFor premise (allMade cs)
 picked premise [] = refl
-picked premise (m ∷ ms) =
-    pick-append premise (rows (m .reply .sent) (m .after)) (rowsOf ms)
-    ∙ ap (λ (l : List (List ℕ)). withPremise premise (rows (m .reply .sent) (m .after)) ++ l) (picked premise ms)
+picked premise (c ∷ cs) =
+    pick-append premise (rows (c .reply .sent) (c .after)) (rowsOf cs)
+    ∙ ap (λ (l : List (List ℕ)). withPremise premise (rows (c .reply .sent) (c .after)) ++ l) (picked premise cs)
 
 on-the-last-day : (t : List (List ℕ)) (answered : List ℕ) → Computed t answered → ((premise : ℕ) → ownOf premise t ≡ ownOf premise tape)
     → OnTheLastDay t answered
-on-the-last-day t answered c agree ms fed p room =
+on-the-last-day t answered c agree cs calls =
     record {
-      answers = buffers-dont-count [] 5000 t ms (plays [] (freshBook 5000) t) mine (by-definition [] 5000 t (c .short)) ∙ c .numbers;
+      answers = made-answers cs
+          ∙ buffers-dont-count [] 5000 t (allMade cs) (plays [] (freshBook 5000) t) mine (by-definition [] 5000 t (c .short))
+          ∙ c .numbers;
       of7 = noticed 7 (record { above = omega arith; below = omega arith }) ∙ computed .ruled .of7;
       of5 = noticed 5 (record { above = omega arith; below = omega arith }) ∙ computed .ruled .of5;
       of6 = noticed 6 (record { above = omega arith; below = omega arith }) ∙ computed .ruled .of6;
-      book = same .book ∙ computed .ruled .book;
+      book = made-book (freshBook 5000) cs ∙ same .book ∙ computed .ruled .book;
     }
   where
-    mine : Plays [] 5000 t ms
-    mine = short-plays [] 5000 t ms (c .short) fed p room
+    mine : Plays [] 5000 t (allMade cs)
+    mine = short-plays [] 5000 t (allMade cs) (c .short) (made-tape cs ∙ calls .fed) (made-played (freshBook 5000) cs (calls .promised))
+        (made-room cs (calls .room))
 
     -- the first tape, played by definition
     first : Plays [] 5000 tape (plays [] (freshBook 5000) tape)
     first = by-definition [] 5000 tape (computed .first .short)
 
-    same : NobodySees 5000 ms (plays [] (freshBook 5000) tape)
-    same = nobody-sees [] 5000 t tape ms (plays [] (freshBook 5000) tape) mine first agree
+    same : NobodySees 5000 (allMade cs) (plays [] (freshBook 5000) tape)
+    same = nobody-sees [] 5000 t tape (allMade cs) (plays [] (freshBook 5000) tape) mine first agree
 
     noticed : (premise : ℕ) → Premise premise
-        → withPremise premise (rowsOf ms) ≡ ruledNotices (runs [] (startState 5000) (records (ownOf premise tape)))
+        → naming premise (rowsOf cs) ≡ ruledNotices (runs [] (startState 5000) (records (ownOf premise tape)))
     noticed premise i =
-        picked premise ms ∙ same .notices premise i
+        naming-is premise (rowsOf cs) ∙ picked premise cs ∙ same .notices premise i
         ∙ plays-ruled [] 5000 premise tape tape (plays [] (freshBook 5000) tape) first refl i .notices
 
 -- ---- the three tapes have the same records for every premise

@@ -1,21 +1,24 @@
 -- Calls on the last day there is, written out to the last byte: a book started above day 4,095, with an empty calendar. Each of three tapes
 -- is played by calls of which nothing is known but that each keeps the record call's promise on the book that the one before returned;
 -- their buffers are as long as anyone likes from 24,576 bytes on, with any bytes in them. proofs/LastDay.antt proves what they return, from
--- the demands.
+-- the demands. No name of demand 3 is used here, so that none of these lines gets weaker with its definitions.
 use Prim.Native.Nat.{ℕ, _≤_}
 use mathlib.Core.Path.{_≡_}
 use mathlib.Core.List.{List, [], _∷_, _++_, map}
+use mathlib.Core.Bool.{cond}
+use lib.Dec.{eqb}
 use lib.ListN.{length, replicate}
 use Rattle.lists.specs.Search.{Each}
+use Rattle.records.specs.Layout.{premiseField, fieldOf}
 use Rattle.records.specs.Notices.{rows}
 use Rattle.premise.specs.declared.Order.{Order}
 use Rattle.premise.specs.declared.File.{File}
 use Rattle.premise.specs.Orders.{blank}
 use Rattle.premise.specs.Refusals.{number}
+use Rattle.book.specs.declared.Book.{Book}
+use Rattle.book.specs.declared.Reply.{Reply}
 use Rattle.book.specs.Book.{bookOf, freshBook}
-use Rattle.book.specs.Calls.{noticeBytes}
-use Rattle.demands.specs.Demand3.{Made, Played, lastBook, withPremise}
-use Rattle.demands.specs.Tapes.{tapeOf}
+use Rattle.book.specs.Promise.{Promised}
 
 -- ---- records and notices: day 4,095 is 255 and 15, low byte first; of the other fields one byte is not zero
 abbrev pub plain : ℕ → ℕ → ℕ → ℕ → ℕ → ℕ → ℕ → List ℕ
@@ -79,23 +82,49 @@ abbrev pub fileOf : ℕ → ℕ → Order → File
 fileOf premise retailer order =
     record { premise = premise; retailer = retailer; since = 0; count = 1; orders = order ∷ replicate 7 blank }
 
--- ---- what comes back
--- the notices that stand in the buffers on return, call after call
-abbrev pub rowsOf : List Made → List (List ℕ)
-rowsOf [] = []
-rowsOf (m ∷ ms) = rows (m .reply .sent) (m .after) ++ rowsOf ms
+-- ---- the calls
+-- one call: the record's bytes, the buffer that it was lent, what it returned, and the buffer on return
+pub record Call : Type 0 where
+  pub bytes : List ℕ
+  pub lent : List ℕ
+  pub reply : Reply
+  pub after : List ℕ
 
-pub record ComesBack (answered : List ℕ) (ms : List Made) : Type 0 where
-  pub answers : map (λ (m : Made). number (m .reply .answer)) ms ≡ answered
-  pub of7 : withPremise 7 (rowsOf ms) ≡ notices7
-  pub of5 : withPremise 5 (rowsOf ms) ≡ notices5
-  pub of6 : withPremise 6 (rowsOf ms) ≡ []
-  pub book : lastBook (freshBook 5000) ms ≡ bookOf 4095 (fileOf 5 102 (switchOf 9 203) ∷ fileOf 7 101 (switchOf 1 202) ∷ [])
+-- each on the book that the one before returned, the first on a fresh one
+abbrev pub OneByOne : Book → List Call → Type 0
+OneByOne b [] = Unit {0}
+OneByOne b (c ∷ cs) = Promised [] b (c .bytes) (c .lent) (c .reply) (c .after) × OneByOne (c .reply .book) cs
+
+pub record CallsOf (tape : List (List ℕ)) (cs : List Call) : Type 0 where
+  pub fed : map (λ (c : Call). c .bytes) cs ≡ tape
+  pub promised : OneByOne (freshBook 5000) cs
+  pub room : Each (λ (c : Call). 24576 ≤ length (c .lent)) cs
+
+-- ---- what comes back
+-- the book that the last call returned
+abbrev pub bookAfter : Book → List Call → Book
+bookAfter b [] = b
+bookAfter b (c ∷ cs) = bookAfter (c .reply .book) cs
+
+-- the notices that stand in the buffers on return, call after call
+abbrev pub rowsOf : List Call → List (List ℕ)
+rowsOf [] = []
+rowsOf (c ∷ cs) = rows (c .reply .sent) (c .after) ++ rowsOf cs
+
+-- of these, the ones with a premise's number in bytes 8 to 15
+abbrev pub naming : ℕ → List (List ℕ) → List (List ℕ)
+naming premise [] = []
+naming premise (row ∷ others) = cond (eqb (fieldOf premiseField row) premise) (row ∷ naming premise others) (naming premise others)
+
+pub record ComesBack (answered : List ℕ) (cs : List Call) : Type 0 where
+  pub answers : map (λ (c : Call). number (c .reply .answer)) cs ≡ answered
+  pub of7 : naming 7 (rowsOf cs) ≡ notices7
+  pub of5 : naming 5 (rowsOf cs) ≡ notices5
+  pub of6 : naming 6 (rowsOf cs) ≡ []
+  pub book : bookAfter (freshBook 5000) cs ≡ bookOf 4095 (fileOf 5 102 (switchOf 9 203) ∷ fileOf 7 101 (switchOf 1 202) ∷ [])
 
 abbrev pub OnTheLastDay : List (List ℕ) → List ℕ → Type 0
-OnTheLastDay tape answered =
-    (ms : List Made) → tapeOf ms ≡ tape → Played [] (freshBook 5000) ms → Each (λ (m : Made). noticeBytes ≤ length (m .lent)) ms
-    → ComesBack answered ms
+OnTheLastDay tape answered = (cs : List Call) → CallsOf tape cs → ComesBack answered cs
 
 -- ---- three tapes: the second and the third have the first one's records in other orders between the premises
 -- Created twice gets 5, one byte 3, the mark 15, and the premise that is not held 4.

@@ -28,4 +28,4 @@ as-one-loop calendar lent tape p answers counts notices out asked r answers′ c
     (λ (n : ℕ). Plays (callsInRow calendar (length notices) (p .book) (recordsOf n lent)) r
     answers answers′ counts counts′ notices notices′)
     many
-    (calls-are-row calendar (p .book) _ r answers answers′ counts counts′ notices notices′ (calls .0) (asked .0 .kept) (calls .1))
+    (calls-are-row calendar (p .book) _ r answers answers′ counts counts′ notices notices′ (calls .0) (calls .1))

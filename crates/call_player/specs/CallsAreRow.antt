@@ -1,13 +1,10 @@
--- Record calls that were made one after the other, on a book that is well kept, are record calls in a row as a definition has them: what
--- `book_calls::play` promises holds of them too; proofs/CallsAreRow.antt proves it (`calls-are-row`).
+-- Record calls that were made one after the other are record calls in a row as the definition has them, whatever the book: what
+-- `book_calls::play` promises of one that is well kept holds of them too; proofs/CallsAreRow.antt proves it (`calls-are-row`).
 use Prim.Native.Nat.{ℕ}
-use mathlib.Core.Path.{_≡_}
 use mathlib.Core.List.{List}
-use mathlib.Core.Bool.{true}
 use lib.ListN.{length}
 use Rattle.book.specs.declared.Book.{Book}
 use Rattle.book.specs.declared.Playback.{Playback}
-use Rattle.book.specs.Book.{bookKept}
 use Rattle.book.specs.CallsInRow.{callsInRow, Plays}
 use Rattle.demands.specs.Demand3.{Made}
 use Rattle.call_player.specs.CallsMade.{CallsMade}
@@ -16,5 +13,5 @@ abbrev pub CallsAreRow : Type 0
 CallsAreRow =
     (calendar : List ℕ) (b : Book) (records : List (List ℕ)) (r : Playback)
     (answers₀ answers₁ counts₀ counts₁ notices₀ notices₁ : List ℕ) (made : List Made)
-    → bookKept b ≡ true → CallsMade calendar b records r answers₀ answers₁ counts₀ counts₁ notices₀ notices₁ made
+    → CallsMade calendar b records r answers₀ answers₁ counts₀ counts₁ notices₀ notices₁ made
     → Plays (callsInRow calendar (length notices₀) b records) r answers₀ answers₁ counts₀ counts₁ notices₀ notices₁

@@ -1,4 +1,1 @@
-pub mod Calling
-pub mod CallsAreRow
-pub mod OneMore
 pub mod Stretches

@@ -1,7 +1,4 @@
-// Record calls made one after the other, each on the book that the one before returned: a stretch of tape played by them and by nothing
-// else of the book's code.
-mod calls;
+// A tape played by record calls: a stretch of it, as `tape_player` plays one by a loop of its own.
 mod stretch;
 
-pub use calls::calls_in_row;
 pub use stretch::play_on;

@@ -23,7 +23,7 @@ pub fn play_on(
     let reader = p.reader;
     let b = p.book;
     let from = tape_player::least(records::RECORD_LENGTH * reader.place, tape.len());
-    let course = crate::calls::calls_in_row(calendar, b, &tape[from..], answers, counts, notices);
+    let course = call_row::calls_in_row(calendar, b, &tape[from..], answers, counts, notices);
     let told = tape_player::put_stretch(reader, course.played, answers, counts, notices, out);
     let counted = told.reader;
     let after = course.book;

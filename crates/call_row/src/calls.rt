@@ -4,7 +4,7 @@ ghost use mathlib.Core.List.{List};
 ghost use lib.ListN.{length};
 ghost use Rattle.book.specs.CallsInRow.{recordsOf};
 ghost use Rattle.demands.specs.Demand3.{Made};
-ghost use Rattle.call_player.specs.CallsMade.{CallsMade};
+ghost use Rattle.call_row.specs.CallsMade.{CallsMade};
 use book::Book;
 use book::Playback;
 use premise::Answer;
@@ -24,13 +24,15 @@ pub fn calls_in_row(
         (now (answers .entry)) (now (answers .exit)) (now (counts .entry)) (now (counts .exit))
         (now (notices .entry)) (now (notices .exit)) made) ⌝ }
 {
-    let most = tape_player::least(answers.len(), counts.len());
     let mut c = b;
     let mut played: usize = 0;
     let mut sent: usize = 0;
     let mut from: usize = 0;
     let mut last = Answer::Accepted;
-    while played < most {
+    while played < answers.len() {
+        if counts.len() <= played {
+            break;
+        }
         if tape.len() <= from {
             break;
         }

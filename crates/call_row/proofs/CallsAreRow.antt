@@ -23,8 +23,8 @@ use Rattle.book.proofs.CallsInRow.{called-room, called-lent, row-none, row-next
 use Rattle.book.proofs.RowsInOrder.{call-not-kept}
 use Rattle.demands.specs.Demand3.{Made, Played, lastBook}
 use Rattle.demands.specs.Tapes.{tapeOf}
-use Rattle.call_player.specs.CallsAreRow.{CallsAreRow}
-use Rattle.call_player.specs.CallsMade.{numbersGiven, countsGiven, sentBy, bytesSent, lastGiven, Lent}
+use Rattle.call_row.specs.CallsAreRow.{CallsAreRow}
+use Rattle.call_row.specs.CallsMade.{numbersGiven, countsGiven, sentBy, bytesSent, lastGiven, Lent}
 
 -- ---- one call
 -- Of its buffer a call sees only whether it is long enough, whatever the book: one that is not well kept gets 2.

@@ -25,9 +25,9 @@ use Rattle.book.proofs.Kept.{book-kept-means}
 use Rattle.book_calls.proofs.Playing.{noted-length, noted-more, dropped}
 use Rattle.demands.specs.Demand3.{Made, Played, lastBook}
 use Rattle.demands.specs.Tapes.{tapeOf}
-use Rattle.call_player.specs.CallsMade.{numbersGiven, countsGiven, sentBy, bytesSent, lastGiven, Lent, CallsMade}
-use Rattle.call_player.proofs.OneMore.{calls-more, lent-more, tape-more, numbers-more, counts-more, sent-more, bytes-more}
-use Rattle.call_player.proofs.OneMore.{last-more, book-more}
+use Rattle.call_row.specs.CallsMade.{numbersGiven, countsGiven, sentBy, bytesSent, lastGiven, Lent, CallsMade}
+use Rattle.call_row.proofs.OneMore.{calls-more, lent-more, tape-more, numbers-more, counts-more, sent-more, bytes-more}
+use Rattle.call_row.proofs.OneMore.{last-more, book-more}
 
 -- ---- a call's notices go into the shortest buffer that is taken, however long its own is
 few : (calendar : List ℕ) (b : Book) (bytes lent : List ℕ) → recordLength * length (call calendar b bytes lent .notices) ≤ noticeBytes
@@ -53,14 +53,17 @@ noted-behind done before after part at n long noted within some rest =
     ∙ sym (append-assoc done (take n part) (drop (at + n) before))
     ∙ ap (λ (k : ℕ). (done ++ take n part) ++ drop k before) many
 
+-- how many calls can be noted
+abbrev places : List ℕ → List ℕ → ℕ
+places answers counts = min (length answers) (length counts)
+
 -- ---- what holds between two calls; the first lists of each pair are the buffers as they were lent
-pub record Calling (calendar tape : List ℕ) (b : Book) (answers₀ counts₀ notices₀ answers counts notices : List ℕ) (most : ℕ) (c : Book)
+pub record Calling (calendar tape : List ℕ) (b : Book) (answers₀ counts₀ notices₀ answers counts notices : List ℕ) (c : Book)
     (played sent from : ℕ) (last : Answer) : Type 0 where
   pub made : List Made
   pub calls : Played calendar b made
   pub lent : Lent notices₀ made
-  pub places : most ≡ min (length answers₀) (length counts₀)
-  pub few : played ≤ most
+  pub few : played ≤ places answers₀ counts₀
   pub room : recordLength * sent ≤ length notices₀
   pub count : played ≡ length made
   pub total : sent ≡ sentBy made
@@ -70,18 +73,16 @@ pub record Calling (calendar tape : List ℕ) (b : Book) (answers₀ counts₀ n
   pub counted : Noted (countsGiven made) counts₀ counts
   pub wrote : Noted (bytesSent made) notices₀ notices
   pub book : c ≡ lastBook b made
-  pub rest : recordsOf most tape ≡ tapeOf made ++ recordsOf (most - played) (drop from tape)
+  pub rest : recordsOf (places answers₀ counts₀) tape ≡ tapeOf made ++ recordsOf (places answers₀ counts₀ - played) (drop from tape)
 
-pub calling-none : (calendar tape : List ℕ) (b : Book) (answers counts notices : List ℕ) (most : ℕ)
-    → most ≡ min (length answers) (length counts)
-    → Calling calendar tape b answers counts notices answers counts notices most b 0 0 0 Accepted
-calling-none calendar tape b answers counts notices most places =
-    let all : most - 0 ≡ most = omega arith in
+pub calling-none : (calendar tape : List ℕ) (b : Book) (answers counts notices : List ℕ)
+    → Calling calendar tape b answers counts notices answers counts notices b 0 0 0 Accepted
+calling-none calendar tape b answers counts notices =
+    let all : places answers counts - 0 ≡ places answers counts = omega arith in
     record {
       made = [];
       calls = tt;
       lent = tt;
-      places = places;
       few = omega arith;
       room = omega arith;
       count = refl;
@@ -95,9 +96,12 @@ calling-none calendar tape b answers counts notices most places =
       rest = ap (λ (n : ℕ). recordsOf n tape) (sym all);
     }
 
-module _ {calendar tape : List ℕ} {b : Book} {answers₀ counts₀ notices₀ answers counts notices : List ℕ} {most : ℕ} {c : Book}
+module _ {calendar tape : List ℕ} {b : Book} {answers₀ counts₀ notices₀ answers counts notices : List ℕ} {c : Book}
     {played sent from : ℕ} {last : Answer}
-    (p : Calling calendar tape b answers₀ counts₀ notices₀ answers counts notices most c played sent from last) where
+    (p : Calling calendar tape b answers₀ counts₀ notices₀ answers counts notices c played sent from last) where
+  abbrev most : ℕ
+  most = places answers₀ counts₀
+
   noted-numbers : length (numbersGiven (p .made)) ≡ played
   noted-numbers = length-map (p .made) (λ (m : Made). number (m .reply .answer)) ∙ sym (p .count)
 
@@ -108,10 +112,10 @@ module _ {calendar tape : List ℕ} {b : Book} {answers₀ counts₀ notices₀ 
   fed-many = length-map (p .made) (λ (m : Made). m .bytes) ∙ sym (p .count)
 
   pub answers-length : length answers ≡ length answers₀
-  answers-length = noted-length (numbersGiven (p .made)) answers₀ answers (p .answered) (omega (arith, noted-numbers, p .few, p .places))
+  answers-length = noted-length (numbersGiven (p .made)) answers₀ answers (p .answered) (omega (arith, noted-numbers, p .few))
 
   pub counts-length : length counts ≡ length counts₀
-  counts-length = noted-length (countsGiven (p .made)) counts₀ counts (p .counted) (omega (arith, noted-counts, p .few, p .places))
+  counts-length = noted-length (countsGiven (p .made)) counts₀ counts (p .counted) (omega (arith, noted-counts, p .few))
 
   pub notices-length : length notices ≡ length notices₀
   notices-length = noted-length (bytesSent (p .made)) notices₀ notices (p .wrote) (omega (arith, p .long, p .room))
@@ -122,10 +126,7 @@ module _ {calendar tape : List ℕ} {b : Book} {answers₀ counts₀ notices₀ 
 
   -- ---- the loop is left
   abbrev records : List (List ℕ)
-  records = recordsOf (min (length answers₀) (length counts₀)) tape
-
-  all-is : records ≡ tapeOf (p .made) ++ recordsOf (most - played) (drop from tape)
-  all-is = ap (λ (n : ℕ). recordsOf n tape) (sym (p .places)) ∙ p .rest
+  records = recordsOf most tape
 
   abbrev Done : Type 0
   Done = (made : List Made) × CallsMade calendar b records (record { played = played; sent = sent; last = last; book = c })
@@ -137,7 +138,7 @@ module _ {calendar tape : List ℕ} {b : Book} {answers₀ counts₀ notices₀ 
     record {
       calls = p .calls;
       lent = p .lent;
-      fed = sym (ap (take played) all-is ∙ take-at (tapeOf (p .made)) _ played fed-many);
+      fed = sym (ap (take played) (p .rest) ∙ take-at (tapeOf (p .made)) _ played fed-many);
       played = p .count;
       stops = stops;
       answers = p .answered;
@@ -152,13 +153,19 @@ module _ {calendar tape : List ℕ} {b : Book} {answers₀ counts₀ notices₀ 
   done-all : recordsOf (most - played) (drop from tape) ≡ [] → Done
   done-all none =
       let made = tapeOf (p .made) in
-      done (inl (sym fed-many ∙ ap length (sym (all-is ∙ ap (λ (l : List (List ℕ)). made ++ l) none ∙ append-nil made))))
+      done (inl (sym fed-many ∙ ap length (sym (p .rest ∙ ap (λ (l : List (List ℕ)). made ++ l) none ∙ append-nil made))))
 
   -- as many are made as can be noted
-  pub done-most : most ≤ played → Done
+  done-most : most ≤ played → Done
   done-most h =
       let none : most - played ≡ 0 = omega (arith, h) in
       done-all (ap (λ (n : ℕ). recordsOf n (drop from tape)) none)
+
+  pub done-answers : length answers ≤ played → Done
+  done-answers h = done-most (omega (arith, h, answers-length))
+
+  pub done-counts : length counts ≤ played → Done
+  done-counts h = done-most (omega (arith, h, counts-length))
 
   -- no record is left
   pub done-over : length tape ≤ from → Done
@@ -169,10 +176,13 @@ module _ {calendar tape : List ℕ} {b : Book} {answers₀ counts₀ notices₀ 
   done-room h = done (inr (omega (arith, h, notices-length)))
 
   -- ---- a record is left and finds room, and its call is made
-  module _ (more : played < most) (h : from < length tape) (room : noticeBytes ≤ length notices - recordLength * sent) (to : ℕ)
+  module _ (first : played < length answers) (other : played < length counts) (h : from < length tape) (room : noticeBytes ≤ length notices - recordLength * sent) (to : ℕ)
       {reply : Reply} {part : List ℕ}
       (kept : Promised calendar c (take (to - from) (drop from tape))
       (take (length notices - recordLength * sent) (drop (recordLength * sent) notices)) reply part) where
+    more : played < most
+    more = omega (arith, first, other, answers-length, counts-length)
+
     abbrev made : Made
     made =
         record {
@@ -221,7 +231,7 @@ module _ {calendar tape : List ℕ} {b : Book} {answers₀ counts₀ notices₀ 
         → Calling calendar tape b answers₀ counts₀ notices₀ (set answers played answer) (set counts played (reply .sent))
         (take (recordLength * sent) notices
         ++ (part ++ drop (length notices - recordLength * sent) (drop (recordLength * sent) notices)))
-        most (reply .book) (played + 1) (sent + reply .sent) to (reply .answer)
+        (reply .book) (played + 1) (sent + reply .sent) to (reply .answer)
     calling-more ends {answer} is =
         let ms = p .made in
         let n = recordLength * reply .sent in
@@ -231,7 +241,6 @@ module _ {calendar tape : List ℕ} {b : Book} {answers₀ counts₀ notices₀ 
           calls = calls-more made calendar b ms (p .calls)
               (subst (λ (x : Book). Promised calendar x (made .bytes) (made .lent) reply part) (p .book) kept);
           lent = lent-more made notices₀ ms (p .lent) (lent-is ∙ ap (λ (k : ℕ). drop k notices₀) at) lent-long;
-          places = p .places;
           few = omega (arith, more);
           room = omega (arith, sent-within-more, notices-length);
           count = ap (λ (k : ℕ). k + 1) (p .count) ∙ sym (length-append ms (made ∷ []));
@@ -241,9 +250,9 @@ module _ {calendar tape : List ℕ} {b : Book} {answers₀ counts₀ notices₀ 
           ended = sym (last-more made Accepted ms);
           answered = subst⁻¹ (λ (l : List ℕ). Noted l answers₀ (set answers played answer))
               (numbers-more made ms ∙ ap (λ (k : ℕ). numbersGiven ms ++ (k ∷ [])) (sym is))
-              (noted-more (numbersGiven ms) answers₀ answers played answer (p .answered) noted-numbers (omega (arith, more, p .places)));
+              (noted-more (numbersGiven ms) answers₀ answers played answer (p .answered) noted-numbers (omega (arith, more)));
           counted = subst⁻¹ (λ (l : List ℕ). Noted l counts₀ (set counts played (reply .sent))) (counts-more made ms)
-              (noted-more (countsGiven ms) counts₀ counts played (reply .sent) (p .counted) noted-counts (omega (arith, more, p .places)));
+              (noted-more (countsGiven ms) counts₀ counts played (reply .sent) (p .counted) noted-counts (omega (arith, more)));
           wrote = subst⁻¹ (λ (l : List ℕ). Noted l notices₀ (take (recordLength * sent) notices
               ++ (part ++ drop (length notices - recordLength * sent) (drop (recordLength * sent) notices))))
               (bytes-more made ms)

@@ -43,7 +43,7 @@ pub fn record_call(calendar: &[u8], b: Book, bytes: &[u8], buffer: &mut [u8]) ->
     }
     let mut answers = [0u8; 1];
     let mut counts = [0u16; 1];
-    let p = crate::player::play(calendar, b, bytes, &mut answers, &mut counts, buffer);
+    let p = book_player::play(calendar, b, bytes, &mut answers, &mut counts, buffer);
     let last = p.last;
     let c = p.book;
     Reply {

@@ -22,7 +22,7 @@ use Rattle.book.proofs.CallsInRow.{records-over, records-next, lent-record}
 use Rattle.book.proofs.Few.{mark-all-few, step-all-few}
 use Rattle.book.proofs.Keeps.{by-call}
 use Rattle.book.proofs.Kept.{book-kept-means}
-use Rattle.book_calls.proofs.Playing.{noted-length, noted-more, dropped}
+use Rattle.book_player.proofs.Playing.{noted-length, noted-more, dropped}
 use Rattle.demands.specs.Demand3.{Made, Played, lastBook}
 use Rattle.demands.specs.Tapes.{tapeOf}
 use Rattle.call_row.specs.CallsMade.{numbersGiven, countsGiven, sentBy, bytesSent, lastGiven, Lent, CallsMade}

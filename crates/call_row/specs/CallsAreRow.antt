@@ -1,5 +1,5 @@
 -- Record calls that were made one after the other are record calls in a row as the definition has them, whatever the book: what
--- `book_calls::play` promises of one that is well kept holds of them too; proofs/CallsAreRow.antt proves it (`calls-are-row`).
+-- `book_player::play` promises of one that is well kept holds of them too; proofs/CallsAreRow.antt proves it (`calls-are-row`).
 use Prim.Native.Nat.{ℕ}
 use mathlib.Core.List.{List}
 use lib.ListN.{length}

@@ -40,7 +40,7 @@ pub fn calls_in_row(
         if notices.len() - standing < book::NOTICE_BYTES {
             break;
         }
-        let to = book_calls::record_end(from, tape.len());
+        let to = book_player::record_end(from, tape.len());
         let reply = book_calls::record_call(calendar, c, &tape[from..to], &mut notices[standing..]);
         last = reply.answer;
         answers[played] = premise_rows::number_of(last);

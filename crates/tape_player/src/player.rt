@@ -32,7 +32,7 @@ pub fn play_on(
     let reader = p.reader;
     let b = p.book;
     let from = least(records::RECORD_LENGTH * reader.place, tape.len());
-    let course = book_calls::play(calendar, b, &tape[from..], answers, counts, notices);
+    let course = book_player::play(calendar, b, &tape[from..], answers, counts, notices);
     let told = crate::stretch_text::put_stretch(
         reader,
         course.played,

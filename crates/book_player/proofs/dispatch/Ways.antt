@@ -12,8 +12,8 @@ use Rattle.book.specs.Book.{mostFiles}
 use Rattle.book_files.specs.declared.premise_numbers.Place.{Place}
 use Rattle.book_files.specs.declared.premise_numbers.Place.the-variants.{Held, Free}
 use Rattle.book_files.specs.Numbers.{placeOfPremise}
-use Rattle.book_calls.specs.declared.dispatch.Task.the-variants.{Refused, Opens, Closes, OnFile, NextDay}
-use Rattle.book_calls.specs.Tasks.{onNew, onHeld, onMark, taskFor}
+use Rattle.book_player.specs.declared.dispatch.Task.the-variants.{Refused, Opens, Closes, OnFile, NextDay}
+use Rattle.book_player.specs.Tasks.{onNew, onHeld, onMark, taskFor}
 
 -- ---- a create of a premise that is not held
 module _ (r : Record) (count at : ℕ) {p : Place} (e : p ≡ Free at) where

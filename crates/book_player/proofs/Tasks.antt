@@ -47,8 +47,8 @@ use Rattle.book_files.proofs.Places.{KnownPlace, Elsewhere, place-in-book}
 use Rattle.book_files.proofs.PutIn.{put-elsewhere}
 use Rattle.book_files.proofs.TakenOut.{taken-here}
 use Rattle.book_files.proofs.Tidy.{past}
-use Rattle.book_calls.specs.declared.dispatch.Task.the-variants.{Refused, Opens, Closes, OnFile, NextDay}
-use Rattle.book_calls.specs.Tasks.{onNew, onHeld, onMark, taskIn, taskOf, Known, KnownHeld, KnownCloses}
+use Rattle.book_player.specs.declared.dispatch.Task.the-variants.{Refused, Opens, Closes, OnFile, NextDay}
+use Rattle.book_player.specs.Tasks.{onNew, onHeld, onMark, taskIn, taskOf, Known, KnownHeld, KnownCloses}
 
 abbrev lent : List ℕ
 lent = replicate noticeBytes 0

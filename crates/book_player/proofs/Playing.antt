@@ -26,7 +26,7 @@ use Rattle.book.specs.Laws.{BookKept, numbersOf}
 use Rattle.book.proofs.Emits.{writes-emits}
 use Rattle.book.proofs.Kept.{book-kept-means}
 use Rattle.book.proofs.CallsInRow.{records-over, records-next, lent-record, called-few, called-keeps, row-none, row-next, row-stops}
-use Rattle.book_calls.proofs.Ways.{Standing, Outcome, Made}
+use Rattle.book_player.proofs.Ways.{Standing, Outcome, Made}
 
 -- ---- calls behind others
 abbrev pub behind : List Result → Course → Course

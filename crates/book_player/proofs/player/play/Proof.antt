@@ -9,15 +9,15 @@ use lib.ListN.{length, take, drop}
 use Rattle.records.specs.Layout.{recordLength}
 use Rattle.book.specs.Book.{mostFiles}
 use Rattle.book.specs.Calls.{noticeBytes}
-use Rattle.book_calls.proofs.Marking.{Marking, mark-none}
-use Rattle.book_calls.proofs.MarkTurns.{mark-place, mark-tidy, mark-room, mark-more, mark-still}
-use Rattle.book_calls.proofs.Ways.{Standing, Made, made-as, each-place, task-asks, by-refusal, held-place, held-asks, by-file}
-use Rattle.book_calls.proofs.Ways.{day-asks, by-marks, open-asks, by-opening, close-place, closed-tidy, close-asks}
-use Rattle.book_calls.proofs.Ways.{by-open-order, by-closing}
-use Rattle.book_calls.proofs.Playing.{Playing, playing-none, answers-length, counts-length, notices-length, sent-within, standing}
-use Rattle.book_calls.proofs.Playing.{sent-more, sent-few, playing-more, plays-most, plays-all, plays-room}
-use Rattle.book_calls.proofs.player.play.Statement.{statement}
-use Rattle.book_calls.proofs.player.play.Tie as tie
+use Rattle.book_player.proofs.Marking.{Marking, mark-none}
+use Rattle.book_player.proofs.MarkTurns.{mark-place, mark-tidy, mark-room, mark-more, mark-still}
+use Rattle.book_player.proofs.Ways.{Standing, Made, made-as, each-place, task-asks, by-refusal, held-place, held-asks, by-file}
+use Rattle.book_player.proofs.Ways.{day-asks, by-marks, open-asks, by-opening, close-place, closed-tidy, close-asks}
+use Rattle.book_player.proofs.Ways.{by-open-order, by-closing}
+use Rattle.book_player.proofs.Playing.{Playing, playing-none, answers-length, counts-length, notices-length, sent-within, standing}
+use Rattle.book_player.proofs.Playing.{sent-more, sent-few, playing-more, plays-most, plays-all, plays-room}
+use Rattle.book_player.proofs.player.play.Statement.{statement}
+use Rattle.book_player.proofs.player.play.Tie as tie
 
 abbrev Inv-loop2 : tie.InvT-loop2
 Inv-loop2 calendar tape answers counts notices₀ c₀ numbers played sent₀ from last to count standing day business end place₀ notices c sent

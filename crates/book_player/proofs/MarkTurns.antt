@@ -29,7 +29,7 @@ use Rattle.book.specs.Laws.{TidyBook}
 use Rattle.book.proofs.Kept.{count-is}
 use Rattle.book.proofs.Marks.{mark-tells-in-order}
 use Rattle.book_files.proofs.Tidy.{past, withPlaces, at-file, length-files}
-use Rattle.book_calls.proofs.Marking.{Marking, room-for, length-marked}
+use Rattle.book_player.proofs.Marking.{Marking, room-for, length-marked}
 
 module _ {calendar : List ℕ} {day : ℕ} {b : Book} {standing : ℕ} {buffer : List ℕ} {i sent : ℕ} {c : Book}
     {after : List ℕ} (m : Marking calendar day b standing buffer i sent c after) (h : i < b .count) where

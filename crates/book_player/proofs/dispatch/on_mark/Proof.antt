@@ -1,9 +1,9 @@
 -- `on_mark` meets its contract: the next day, or row 15. Assumes nothing.
 use mathlib.Core.Path.{sym}
 use native.Mathlib.Omega.{arith}
-use Rattle.book_calls.proofs.dispatch.Ways.{next-day, another-day}
-use Rattle.book_calls.proofs.dispatch.on_mark.Statement.{statement}
-use Rattle.book_calls.proofs.dispatch.on_mark.Tie as tie
+use Rattle.book_player.proofs.dispatch.Ways.{next-day, another-day}
+use Rattle.book_player.proofs.dispatch.on_mark.Statement.{statement}
+use Rattle.book_player.proofs.dispatch.on_mark.Tie as tie
 
 add-if1 : tie.Need-add-if1
 add-if1 c = omega (arith, c .pre)

@@ -5,7 +5,7 @@ ghost use Prim.Native.Nat.{_≤_};
 ghost use lib.ListN.{length, take};
 ghost use Rattle.days.specs.Days.{lastDay};
 ghost use Rattle.book_files.specs.Numbers.{placeOfPremise};
-ghost use Rattle.book_calls.specs.Tasks.{onNew, onHeld, onMark, taskOf};
+ghost use Rattle.book_player.specs.Tasks.{onNew, onHeld, onMark, taskOf};
 use book_files::Place;
 use premise::Answer;
 use records::Reading;

@@ -2,10 +2,10 @@
 use mathlib.Core.Path.{sym, ap, _∙_}
 use native.Mathlib.Omega.{arith}
 use borrow.Author.Needs.{needs}
-use Rattle.book_calls.specs.Tasks.{onNew}
-use Rattle.book_calls.proofs.dispatch.Ways.{new-full, new-opens}
-use Rattle.book_calls.proofs.dispatch.on_new.Statement.{statement}
-use Rattle.book_calls.proofs.dispatch.on_new.Tie as tie
+use Rattle.book_player.specs.Tasks.{onNew}
+use Rattle.book_player.proofs.dispatch.Ways.{new-full, new-opens}
+use Rattle.book_player.proofs.dispatch.on_new.Statement.{statement}
+use Rattle.book_player.proofs.dispatch.on_new.Tie as tie
 
 returns : tie.Need-returns
 returns c =

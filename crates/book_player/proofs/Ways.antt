@@ -37,12 +37,12 @@ use Rattle.book.proofs.OnHeld.{call-on-held}
 use Rattle.book.proofs.ByReading.{mark-keeps-numbers}
 use Rattle.book.proofs.CallsInRow.{called-room}
 use Rattle.book_files.proofs.Tidy.{past, length-files}
-use Rattle.book_calls.specs.declared.dispatch.Task.{Task}
-use Rattle.book_calls.specs.declared.dispatch.Task.the-variants.{Refused, Opens, Closes, NextDay}
-use Rattle.book_calls.specs.declared.dispatch.Task.the-variants as variant
-use Rattle.book_calls.specs.Tasks.{taskOf, Known, KnownOpens, KnownCloses, KnownHeld}
-use Rattle.book_calls.proofs.Marking.{Asked, Marking, dated, mark-asks, mark-book, mark-wrote}
-use Rattle.book_calls.proofs.Tasks.{task-known}
+use Rattle.book_player.specs.declared.dispatch.Task.{Task}
+use Rattle.book_player.specs.declared.dispatch.Task.the-variants.{Refused, Opens, Closes, NextDay}
+use Rattle.book_player.specs.declared.dispatch.Task.the-variants as variant
+use Rattle.book_player.specs.Tasks.{taskOf, Known, KnownOpens, KnownCloses, KnownHeld}
+use Rattle.book_player.proofs.Marking.{Asked, Marking, dated, mark-asks, mark-book, mark-wrote}
+use Rattle.book_player.proofs.Tasks.{task-known}
 
 -- a well-kept book, the premise numbers of its places, and a buffer in which some notices stand and those of any call find room
 pub record Standing (b : Book) (numbers : List ℕ) (standing : ℕ) (buffer : List ℕ) : Type 0 where

@@ -4,10 +4,10 @@ use mathlib.Core.Logic.{inl, inr, ⊎-elim}
 use native.Mathlib.Omega.{arith}
 use lib.ListN.{take}
 use borrow.Author.Needs.{needs}
-use Rattle.book_calls.proofs.Tasks.{task-read}
-use Rattle.book_calls.proofs.dispatch.Ways.{kind-new, kind-held, kind-mark}
-use Rattle.book_calls.proofs.dispatch.task_of.Statement.{statement}
-use Rattle.book_calls.proofs.dispatch.task_of.Tie as tie
+use Rattle.book_player.proofs.Tasks.{task-read}
+use Rattle.book_player.proofs.dispatch.Ways.{kind-new, kind-held, kind-mark}
+use Rattle.book_player.proofs.dispatch.task_of.Statement.{statement}
+use Rattle.book_player.proofs.dispatch.task_of.Tie as tie
 
 returns : tie.Need-returns
 returns c =

@@ -26,8 +26,8 @@ use Rattle.book.specs.Laws.{OnHeld}
 use Rattle.book_files.specs.declared.premise_numbers.Place.{Place}
 use Rattle.book_files.specs.declared.premise_numbers.Place.the-variants.{Held, Free}
 use Rattle.book_files.specs.Numbers.{placeOfPremise}
-use Rattle.book_calls.specs.declared.dispatch.Task.{Task}
-use Rattle.book_calls.specs.declared.dispatch.Task.the-variants.{Refused, Opens, Closes, OnFile, NextDay}
+use Rattle.book_player.specs.declared.dispatch.Task.{Task}
+use Rattle.book_player.specs.declared.dispatch.Task.the-variants.{Refused, Opens, Closes, OnFile, NextDay}
 
 -- ---- what is to be done
 -- a create: rows 5 and 6

@@ -1,10 +1,10 @@
 -- `on_held` meets its contract: row 4 where the premise is not held; else a retire, or a record on its file. Assumes nothing.
 use mathlib.Core.Path.{sym, ap, _∙_}
 use borrow.Author.Needs.{needs}
-use Rattle.book_calls.specs.Tasks.{onHeld}
-use Rattle.book_calls.proofs.dispatch.Ways.{held-closes, held-stays}
-use Rattle.book_calls.proofs.dispatch.on_held.Statement.{statement}
-use Rattle.book_calls.proofs.dispatch.on_held.Tie as tie
+use Rattle.book_player.specs.Tasks.{onHeld}
+use Rattle.book_player.proofs.dispatch.Ways.{held-closes, held-stays}
+use Rattle.book_player.proofs.dispatch.on_held.Statement.{statement}
+use Rattle.book_player.proofs.dispatch.on_held.Tie as tie
 
 returns : tie.Need-returns
 returns c =

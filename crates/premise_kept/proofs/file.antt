@@ -1,2 +1,3 @@
 pub mod Distinct
+pub mod Turns
 pub mod Whole

@@ -1,10 +1,6 @@
-// Whether a place is unused: a place of a file, those after its orders, a file's place in the book. Nearly always all fields are zero, so
-// those of a place are tested without a branch.
+// Whether a place is unused: a place of a file, a file's place in the book. Nearly always all fields are zero, so those of a place are
+// tested without a branch.
 ghost use mathlib.Core.Path.{_≡_};
-ghost use Prim.Native.Nat.{_≤_};
-ghost use lib.ListN.{drop};
-ghost use Rattle.lists.specs.Search.{allOf};
-ghost use Rattle.premise.specs.Orders.{mostOrders};
 ghost use Rattle.premise.specs.WellKept.{isBlank, fileBlank};
 use premise::File;
 use premise::Order;
@@ -24,12 +20,14 @@ pub fn is_blank(o: Order) -> bool
         & (o.told == 0)
 }
 
-// Whether the places after the orders are unused.
-pub fn rest_blank(file: File) -> bool
-    requires { ⌜ file .count ≤ mostOrders ⌝ }
-    ensures { λ r. ⌜ r ≡ allOf isBlank (drop (file .count) (file .orders)) ⌝ }
+// Whether an unused place of the book is zero in every field.
+pub fn file_blank(file: File) -> bool
+    ensures { λ r. ⌜ r ≡ fileBlank file ⌝ }
 {
-    let mut i = file.count;
+    if !((file.premise == 0) & (file.retailer == 0) & (file.since == 0) & (file.count == 0)) {
+        return false;
+    }
+    let mut i: usize = 0;
     while i < premise::MOST_ORDERS {
         let o = file.orders[i];
         if !is_blank(o) {
@@ -38,14 +36,4 @@ pub fn rest_blank(file: File) -> bool
         i += 1;
     }
     true
-}
-
-// Whether an unused place of the book is zero in every field.
-pub fn file_blank(file: File) -> bool
-    ensures { λ r. ⌜ r ≡ fileBlank file ⌝ }
-{
-    if !((file.premise == 0) & (file.retailer == 0) & (file.since == 0) & (file.count == 0)) {
-        return false;
-    }
-    rest_blank(file)
 }

@@ -15,7 +15,7 @@ use Rattle.premise.specs.WellKept.{orderKept, distinct, isBlank, fileKept}
 
 module _ (f : File) where
   -- the fields besides the orders
-  abbrev headKept : Bool
+  abbrev pub headKept : Bool
   headKept = aPremise (f .premise) && aRetailerOrNone (f .retailer) && isDay (f .since) && leb (f .count) mostOrders
 
   pub head-few : not headKept ≡ false → f .count ≤ mostOrders

@@ -1,17 +1,21 @@
--- Laws of an unused place of the book: a field besides its orders that is not zero fails the test, and else the places decide. Assumes
--- nothing.
-use mathlib.Core.Path.{_≡_, ap, _∙_}
+-- Laws of unused places. A place of the book: a field besides its orders that is not zero fails the test, and else the places decide. The
+-- places of a file, looked at one after another. Assumes nothing.
+use Prim.Native.Nat.{ℕ, _+_, _≤_, _<_}
+use mathlib.Core.Path.{_≡_, sym, _∙_}
+use mathlib.Core.List.{List, _∷_}
 use mathlib.Core.Bool.{Bool, true, false, not, _&&_}
-use Prim.Native.Nat.{ℕ}
+use native.Mathlib.Omega.{arith}
 use lib.Dec.{eqb}
-use lib.ListN.{length, drop}
-use borrow.Author.Tests.{eqb-true, eq-eqb, not-true, not-false}
+use lib.ListN.{length, drop, getD}
+use borrow.Author.Tests.{eq-eqb, not-true, not-false}
 use Rattle.lists.specs.Search.{allOf}
-use Rattle.lists.proofs.TestLaws.{and-right}
+use Rattle.lists.proofs.Find.{drop-first, drop-none, all-miss, all-next, all-end}
+use Rattle.premise.specs.declared.Order.{Order}
 use Rattle.premise.specs.declared.File.{File}
-use Rattle.premise.specs.Orders.{mostOrders}
+use Rattle.premise.specs.Orders.{mostOrders, blank}
 use Rattle.premise.specs.WellKept.{isBlank, fileBlank}
 
+-- ---- a place of the book
 module _ (f : File) where
   -- the fields besides the orders
   abbrev headBlank : Bool
@@ -21,13 +25,25 @@ module _ (f : File) where
   unfolding fileBlank
   head-used e = rw (not-true headBlank e)
 
-  pub head-none : not headBlank ≡ false → f .count ≡ 0
-  head-none e = eqb-true (f .count) 0
-      (and-right (eqb (f .premise) 0 && eqb (f .retailer) 0 && eqb (f .since) 0) (eqb (f .count) 0) (not-false headBlank e))
-
-  -- with no orders the places after them are all the places
-  pub places-decide : not headBlank ≡ false → length (f .orders) ≡ mostOrders → allOf isBlank (drop (f .count) (f .orders)) ≡ fileBlank f
+  pub places-decide : not headBlank ≡ false → length (f .orders) ≡ mostOrders → allOf isBlank (f .orders) ≡ fileBlank f
   unfolding fileBlank
-  places-decide e eight =
-      ap (λ (n : ℕ). allOf isBlank (drop n (f .orders))) (head-none e)
-      ∙ rw (not-false headBlank e, eq-eqb (length (f .orders)) mostOrders eight)
+  places-decide e eight = rw (not-false headBlank e, eq-eqb (length (f .orders)) mostOrders eight)
+
+-- ---- places of a file that are the last part of a test: the test of those left gives what the whole test gives
+pub record PlacesLeft (orders : List Order) (whole : Bool) (i : ℕ) : Type 0 where
+  pub eight : length orders ≡ mostOrders
+  pub decides : allOf isBlank (drop i orders) ≡ whole
+
+module _ {orders : List Order} {whole : Bool} {i : ℕ} (v : PlacesLeft orders whole i) where
+  module _ (h : i < mostOrders) where
+    place : drop i orders ≡ getD orders i blank ∷ drop (i + 1) orders
+    place = drop-first blank orders i (omega (arith, v .eight))
+
+    pub place-used : isBlank (getD orders i blank) ≡ false → false ≡ whole
+    place-used q = sym (all-miss isBlank place q) ∙ v .decides
+
+    pub place-unused : isBlank (getD orders i blank) ≡ true → PlacesLeft orders whole (i + 1)
+    place-unused q = record { eight = v .eight; decides = sym (all-next isBlank place q) ∙ v .decides }
+
+  pub places-end : mostOrders ≤ i → true ≡ whole
+  places-end h = sym (all-end isBlank (drop-none orders i (omega (arith, v .eight)))) ∙ v .decides

@@ -1,69 +1,188 @@
--- `file_kept` meets its contract: the parts of the test make up the definition; the count is in range
--- where the orders are read. Assumes nothing.
-use mathlib.Core.Path.{_≡_, sym, _∙_}
+-- `file_kept` meets its contract. The loops' invariants: the tests of the orders left give what the tests of all of them give; the search
+-- of the later ones left gives what the search of all the later ones gives; the test of the places left gives what the test of the file
+-- gives. The measures are what is left. Assumes nothing.
+use Prim.Native.Nat.{_-_}
+use mathlib.Core.Path.{_≡_, refl, sym, _∙_}
+use native.Mathlib.Omega.{arith}
 use lib.ListN.{length}
+use borrow.Author.Needs.{needs}
 use borrow.Author.Tests.{not-true, not-false}
 use Rattle.lists.proofs.Length.{unmapped}
 use Rattle.premise.specs.Orders.{mostOrders}
-use Rattle.premise_kept.proofs.file.Whole.{head-few, kept-no-head, kept-no-orders, kept-no-references, kept-rest}
+use Rattle.premise.specs.WellKept.{fileKept}
+use Rattle.premise_kept.proofs.file.Whole.{kept-no-head}
+use Rattle.premise_kept.proofs.file.Turns.{
+  HeldSofar,
+  LaterSofar,
+  few,
+  order-not-kept,
+  reference-again,
+  reference-differs,
+  order-passes,
+  held-done,
+}
+use Rattle.premise_kept.proofs.unused.Zero.{PlacesLeft, place-used, place-unused, places-end}
 use Rattle.premise_kept.proofs.file.file_kept.Statement.{statement}
 use Rattle.premise_kept.proofs.file.file_kept.Tie as tie
-use Rattle.premise_kept.proofs.file.file_kept.Reads as reads
-use Rattle.premise_kept.proofs.file.file_kept.Lts as lts
-use Rattle.premise_kept.proofs.file.orders_kept.Reads as orders-kept-reads
-use Rattle.premise_kept.proofs.file.references_distinct.Reads as references-distinct-reads
-use Rattle.premise_kept.proofs.unused.rest_blank.Reads as rest-blank-reads
 
-eight : (s : lts.Start (
-  orders-kept-reads.Asked,
-  orders-kept-reads.Learnt,
-  references-distinct-reads.Asked,
-  references-distinct-reads.Learnt,
-  rest-blank-reads.Asked,
-  rest-blank-reads.Learnt,
-) reads.Pre reads.Post) → length (s .args .file .orders) ≡ mostOrders
-eight s = search unmapped
+abbrev Inv-later : tie.InvT-later
+Inv-later file n i o j₀ j = LaterSofar file o i j
 
-returns : tie.Need-returns
-returns c = kept-no-head (c .before .before .before .before .before .args .file) (c .if1 .taken)
+abbrev μ-later : tie.MeasureT-later
+μ-later file n i o j₀ j = n - j
 
-orders-kept-requires : tie.Need-orders-kept-requires
-orders-kept-requires c κs = head-few (c .before .before .before .before .before .args .file) (c .if1 .left)
+abbrev Inv-held : tie.InvT-held
+Inv-held file n i₀ i = HeldSofar file n i
 
-returns-2 : tie.Need-returns-2
-returns-2 c = sym (kept-no-orders _ (sym (c .before .orders-kept .ensures) ∙ not-true _ (c .if2 .taken)))
+abbrev μ-held : tie.MeasureT-held
+μ-held file n i₀ i = n - i
 
-references-distinct-requires : tie.Need-references-distinct-requires
-references-distinct-requires c κs =
-    let h = c .before .before in
-    head-few (h .before .before .before .before .before .args .file) (h .if1 .left)
+abbrev Inv-unused : tie.InvT-unused
+Inv-unused file n i₀ i = PlacesLeft (file .orders) (fileKept file) i
 
-returns-3 : tie.Need-returns-3
-returns-3 c = sym (kept-no-references _ (sym (c .before .references-distinct .ensures) ∙ not-true _ (c .if3 .taken)))
+abbrev μ-unused : tie.MeasureT-unused
+μ-unused file n i₀ i = mostOrders - i
 
-rest-blank-requires : tie.Need-rest-blank-requires
-rest-blank-requires c κs =
-    let h = c .before .before .before .before in
-    head-few (h .before .before .before .before .before .args .file) (h .if1 .left)
+returns : tie.Need-returns Inv-later μ-later Inv-held μ-held Inv-unused μ-unused
+returns c = kept-no-head (c .before .args .t1) (c .if1 .taken)
 
-returns-4 : tie.Need-returns-4
+held-holds : tie.Need-held-holds Inv-later μ-later Inv-held μ-held Inv-unused μ-unused
+held-holds c =
+    let e : length (c .before .args .t1 .orders) ≡ 8 = search unmapped in
+    record { within = omega arith; same = refl; eight = e; head = c .if1 .left; orders = refl; references = refl }
+
+mul-o : tie.Need-mul-o Inv-later μ-later Inv-held μ-held Inv-unused μ-unused
+mul-o c = omega (arith, c .held-test .taken, few (c .before .held .inv))
+
+element-copy-out-o : tie.Need-element-copy-out-o Inv-later μ-later Inv-held μ-held Inv-unused μ-unused
+element-copy-out-o c = omega (arith, c .held-test .taken, few (c .before .held .inv))
+
+order-kept-requires : tie.Need-order-kept-requires Inv-later μ-later Inv-held μ-held Inv-unused μ-unused
+order-kept-requires c κs = search needs
+
+returns-2 : tie.Need-returns-2 Inv-later μ-later Inv-held μ-held Inv-unused μ-unused
+returns-2 c =
+    let w = c .before .before .before in
+    order-not-kept (w .before .held .inv) (w .held-test .taken) (sym (c .before .order-kept .ensures) ∙ not-true _ (c .if2 .taken))
+
+add-i : tie.Need-add-i Inv-later μ-later Inv-held μ-held Inv-unused μ-unused
+add-i c =
+    let w = c .before .before .before in omega (arith, w .held-test .taken, few (w .before .held .inv))
+
+later-holds : tie.Need-later-holds Inv-later μ-later Inv-held μ-held Inv-unused μ-unused
+later-holds c = refl
+
+held-less : tie.Need-held-less Inv-later μ-later Inv-held μ-held Inv-unused μ-unused
+held-less c =
+    let w = c .before .before .before .before .before in omega (arith, w .held-test .taken)
+
+held-again : tie.Need-held-again Inv-later μ-later Inv-held μ-held Inv-unused μ-unused
+held-again c =
+    let m = c .before in
+    let e = m .before in
+    let w = e .before .before .before in
+    order-passes (w .before .held .inv) (w .held-test .taken) (m .later .j) (m .later .inv) (c .later-test .left)
+    (sym (e .before .order-kept .ensures) ∙ not-false _ (e .if2 .left))
+
+mul-other : tie.Need-mul-other Inv-later μ-later Inv-held μ-held Inv-unused μ-unused
+mul-other c =
+    let w = c .before .before .before .before .before in omega (arith, c .later-test .taken, few (w .before .held .inv))
+
+element-copy-out-other : tie.Need-element-copy-out-other Inv-later μ-later Inv-held μ-held Inv-unused μ-unused
+element-copy-out-other c =
+    let w = c .before .before .before .before .before in omega (arith, c .later-test .taken, few (w .before .held .inv))
+
+returns-3 : tie.Need-returns-3 Inv-later μ-later Inv-held μ-held Inv-unused μ-unused
+returns-3 c =
+    let t = c .before .before .before .before in
+    let m = t .before in
+    let w = m .before .before .before .before in
+    reference-again (w .before .held .inv) (w .held-test .taken) (m .later .j) (m .later .inv) (t .later-test .taken) (c .if3 .taken)
+
+add-j : tie.Need-add-j Inv-later μ-later Inv-held μ-held Inv-unused μ-unused
+add-j c =
+    let t = c .before .before .before .before in
+    let w = t .before .before .before .before .before in
+    omega (arith, t .later-test .taken, few (w .before .held .inv))
+
+later-less : tie.Need-later-less Inv-later μ-later Inv-held μ-held Inv-unused μ-unused
+later-less c =
+    let t = c .before .before .before .before in omega (arith, t .later-test .taken)
+
+later-again : tie.Need-later-again Inv-later μ-later Inv-held μ-held Inv-unused μ-unused
+later-again c =
+    let t = c .before .before .before .before in
+    let m = t .before in
+    let w = m .before .before .before .before in
+    reference-differs (w .before .held .inv) (w .held-test .taken) (m .later .j) (m .later .inv) (t .later-test .taken) (c .if3 .left)
+
+unused-holds : tie.Need-unused-holds Inv-later μ-later Inv-held μ-held Inv-unused μ-unused
+unused-holds c = held-done (c .before .held .inv) (c .held-test .left)
+
+mul-o-2 : tie.Need-mul-o-2 Inv-later μ-later Inv-held μ-held Inv-unused μ-unused
+mul-o-2 c = omega (arith, c .unused-test .taken)
+
+element-copy-out-o-2 : tie.Need-element-copy-out-o-2 Inv-later μ-later Inv-held μ-held Inv-unused μ-unused
+element-copy-out-o-2 c = omega (arith, c .unused-test .taken)
+
+is-blank-requires : tie.Need-is-blank-requires Inv-later μ-later Inv-held μ-held Inv-unused μ-unused
+is-blank-requires c κs = search needs
+
+returns-4 : tie.Need-returns-4 Inv-later μ-later Inv-held μ-held Inv-unused μ-unused
 returns-4 c =
-    let d = c .before in
-    let o = d .before .before in
-    let h = o .before .before in
-    let s = h .before .before .before .before .before in
-    c .rest-blank .ensures
-    ∙ sym (kept-rest (s .args .file) (eight s) (h .if1 .left) (sym (o .before .orders-kept .ensures) ∙ not-false _ (o .if2 .left))
-    (sym (d .before .references-distinct .ensures) ∙ not-false _ (d .if3 .left)))
+    let w = c .before .before .before in
+    place-used (w .before .unused .inv) (omega (arith, w .unused-test .taken))
+    (sym (c .before .is-blank .ensures) ∙ not-true _ (c .if4 .taken))
+
+add-i-2 : tie.Need-add-i-2 Inv-later μ-later Inv-held μ-held Inv-unused μ-unused
+add-i-2 c =
+    let w = c .before .before .before in omega (arith, w .unused-test .taken)
+
+unused-less : tie.Need-unused-less Inv-later μ-later Inv-held μ-held Inv-unused μ-unused
+unused-less c =
+    let w = c .before .before .before in omega (arith, w .unused-test .taken)
+
+unused-again : tie.Need-unused-again Inv-later μ-later Inv-held μ-held Inv-unused μ-unused
+unused-again c =
+    let w = c .before .before .before in
+    place-unused (w .before .unused .inv) (omega (arith, w .unused-test .taken))
+    (sym (c .before .is-blank .ensures) ∙ not-false _ (c .if4 .left))
+
+returns-5 : tie.Need-returns-5 Inv-later μ-later Inv-held μ-held Inv-unused μ-unused
+returns-5 c = places-end (c .before .unused .inv) (omega (arith, c .unused-test .left))
 
 pub file-kept-spec : {M : Type 1} → statement M
 file-kept-spec =
     tie.close
     (tie.spec
+    Inv-later
+    μ-later
+    Inv-held
+    μ-held
+    Inv-unused
+    μ-unused
     returns
-    orders-kept-requires
+    held-holds
+    mul-o
+    element-copy-out-o
+    order-kept-requires
     returns-2
-    references-distinct-requires
+    add-i
+    later-holds
+    held-less
+    held-again
+    mul-other
+    element-copy-out-other
     returns-3
-    rest-blank-requires
-    returns-4)
+    add-j
+    later-less
+    later-again
+    unused-holds
+    mul-o-2
+    element-copy-out-o-2
+    is-blank-requires
+    returns-4
+    add-i-2
+    unused-less
+    unused-again
+    returns-5)

@@ -32,8 +32,8 @@ record Left (premise retailer : ℕ) (before : Type 0) (f : File) : Type 0 where
   kept : KeptFor premise f
   share : before → WithinShare retailer f
 
-abbrev Leaves : ℕ → ℕ → Type 0 → Given → Type 0
-Leaves premise retailer before given = Held (Left premise retailer before) (given .state .file)
+abbrev LeftBy : ℕ → ℕ → Type 0 → Given → Type 0
+LeftBy premise retailer before given = Held (Left premise retailer before) (given .state .file)
 
 -- a record that is neither create nor retire, new order nor day mark names an order
 names-order : (r : Record) → wellFormed r ≡ true → is kindCreate r ≡ false → is kindRetire r ≡ false → is kindNewOrder r ≡ false
@@ -99,12 +99,12 @@ module _ (calendar : List ℕ) (today : ℕ) (r : Record) (premise retailer : �
   Own (some f) = Unit {0}
 
   effect-left : (file : Option File) → Own file → NoRow calendar today file r → Held (KeptFor premise) file
-      → Leaves premise retailer (Held (WithinShare retailer) file) (effectOn calendar today file r)
+      → LeftBy premise retailer (Held (WithinShare retailer) file) (effectOn calendar today file r)
   effect-left none own n k =
-      by-test (Leaves premise retailer (Unit {0})) (is kindCreate r) _ _ (λ e. new-file-left (Unit {0}) e (own e)) (λ e. tt)
+      by-test (LeftBy premise retailer (Unit {0})) (is kindCreate r) _ _ (λ e. new-file-left (Unit {0}) e (own e)) (λ e. tt)
   effect-left (some f) own n k =
-      by-test (Leaves premise retailer (WithinShare retailer f)) (is kindRetire r) _ _ (λ t. tt)
-      (λ t. by-test (Leaves premise retailer (WithinShare retailer f)) (is kindDayMark r) _ _
+      by-test (LeftBy premise retailer (WithinShare retailer f)) (is kindRetire r) _ _ (λ t. tt)
+      (λ t. by-test (LeftBy premise retailer (WithinShare retailer f)) (is kindDayMark r) _ _
       (λ d. let a = mark-leaves calendar (r .day) f premise k in
       record { kept = a .kept; share = λ h. omega (arith, h, a .open-of retailer) })
       (λ d. stepped-left f n k t d))
@@ -115,10 +115,10 @@ module _ (calendar : List ℕ) (today : ℕ) (r : Record) (premise retailer : �
   as-before (some f) k = record { kept = k; share = λ h. h }
 
   step-left : (file : Option File) → Own file → Held (KeptFor premise) file
-      → Leaves premise retailer (Held (WithinShare retailer) file) (givenOn calendar today file r)
+      → LeftBy premise retailer (Held (WithinShare retailer) file) (givenOn calendar today file r)
   unfolding step
   step-left file own k =
-      by-test (Leaves premise retailer (Held (WithinShare retailer) file)) (eqb (number (firstRow (rows calendar today file r))) 0) _ _
+      by-test (LeftBy premise retailer (Held (WithinShare retailer) file)) (eqb (number (firstRow (rows calendar today file r))) 0) _ _
       (λ e. effect-left file own (no-row calendar today file r e) k)
       (λ e. as-before file k)
 

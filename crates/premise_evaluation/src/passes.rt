@@ -100,9 +100,8 @@ pub fn run(
     }
 }
 
-// The evaluation of a file, by the last day in window, which the caller looks for once for many files. One with no order that a pass would
-// change is left alone: most files are.
-pub fn evaluate(
+// The four passes over a file, one after another, each on what the one before left.
+fn run_passes(
     calendar: &[u8],
     today: u16,
     last: u16,
@@ -113,12 +112,6 @@ pub fn evaluate(
     requires { ⌜ Evaluable (now calendar) today last file (evaluated (now calendar) today file .notices) standing (now buffer) ⌝ }
     ensures { λ r. ⌜ DoneToFile (evaluated (now (calendar .entry)) today file) standing r (now (buffer .entry)) (now (buffer .exit)) ⌝ }
 {
-    if !crate::changes::changes_file(today, last, file) {
-        return FileAfter {
-            file: file,
-            sent: standing,
-        };
-    }
     let settled = run(Pass::SameDaySwitches, today, last, file, standing, buffer);
     let displaced = run(
         Pass::DropsOnSwitchDays,
@@ -144,4 +137,26 @@ pub fn evaluate(
         lapsed.sent,
         buffer,
     )
+}
+
+// The evaluation of a file, by the last day in window, which the caller looks for once for many files. One with no order that a pass would
+// change is left alone: most files are, and are not copied for the passes.
+pub fn evaluate(
+    calendar: &[u8],
+    today: u16,
+    last: u16,
+    file: File,
+    standing: usize,
+    buffer: &mut [u8],
+) -> FileAfter
+    requires { ⌜ Evaluable (now calendar) today last file (evaluated (now calendar) today file .notices) standing (now buffer) ⌝ }
+    ensures { λ r. ⌜ DoneToFile (evaluated (now (calendar .entry)) today file) standing r (now (buffer .entry)) (now (buffer .exit)) ⌝ }
+{
+    if crate::changes::changes_file(today, last, file) {
+        return run_passes(calendar, today, last, file, standing, buffer);
+    }
+    FileAfter {
+        file: file,
+        sent: standing,
+    }
 }

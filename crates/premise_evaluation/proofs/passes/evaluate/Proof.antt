@@ -1,81 +1,31 @@
--- `evaluate` meets its contract: a file that the evaluation leaves as it is, or its four passes one after another, each on
--- what the one before left. Assumes nothing.
+-- `evaluate` meets its contract: a file that the evaluation leaves as it is, or its four passes. Assumes nothing.
 use mathlib.Core.Path.{sym, _∙_}
 use borrow.Author.Needs.{needs}
-use borrow.Author.Tests.{not-true}
-use Rattle.premise.specs.Evaluation.{evaluated}
-use Rattle.premise_laws.proofs.Writes.{writes-length}
 use Rattle.premise_laws.proofs.ChangesFile.{evaluated-still}
 use Rattle.premise_laws.proofs.Then.{done-nothing}
-use Rattle.premise_evaluation.proofs.passes.Evaluating.{same-day-ready, drops-ready, permits-ready, losses-ready, evaluate-done}
 use Rattle.premise_evaluation.proofs.passes.evaluate.Statement.{statement}
 use Rattle.premise_evaluation.proofs.passes.evaluate.Tie as tie
 
 changes-file-requires : tie.Need-changes-file-requires
 changes-file-requires c κs = search needs
 
+run-passes-requires : tie.Need-run-passes-requires
+run-passes-requires c κs = search needs
+
+same-length : tie.Need-same-length
+same-length c = search needs
+
 returns : tie.Need-returns
-returns c =
+returns c = search needs
+
+returns-2 : tie.Need-returns-2
+returns-2 c =
     let w = c .before in
     let s = w .before .before .before in
     let a = s .args in
     done-nothing _ (a .file) (a .standing) (a .buffer .now)
     (evaluated-still (a .calendar .now) (a .today) (a .last) (s .pre .window) (a .file) (s .pre .tidy)
-    (sym (w .changes-file .ensures) ∙ not-true _ (c .if1 .taken)))
-
-run-requires : tie.Need-run-requires
-run-requires c κs = let s = c .before .before .before .before .before in same-day-ready (s .pre)
-
-run-requires-2 : tie.Need-run-requires-2
-run-requires-2 c κs =
-    let u = c .before .before .before in
-    let s = u .before .before .before .before .before .before in
-    drops-ready (s .pre) (u .run .ensures)
-
-run-requires-3 : tie.Need-run-requires-3
-run-requires-3 c κs =
-    let v = c .before .before .before in
-    let u = v .before .before .before .before in
-    let s = u .before .before .before .before .before .before in
-    permits-ready (s .pre) (u .run .ensures) (v .run2 .ensures)
-
-run-requires-4 : tie.Need-run-requires-4
-run-requires-4 c κs =
-    let w = c .before .before .before in
-    let v = w .before .before .before .before in
-    let u = v .before .before .before .before in
-    let s = u .before .before .before .before .before .before in
-    losses-ready (s .pre) (u .run .ensures) (v .run2 .ensures) (w .run3 .ensures)
-
-same-length : tie.Need-same-length
-same-length c =
-    let x = c .before .before in
-    let w = x .before .before .before .before in
-    let v = w .before .before .before .before in
-    let u = v .before .before .before .before in
-    let s = u .before .before .before .before .before .before in
-    let a = s .args in
-    writes-length (a .standing) (a .buffer .now) (evaluated (a .calendar .now) (a .today) (a .file) .notices) (s .pre .room) _ _
-    (evaluate-done (s .pre) (u .run .ensures) (v .run2 .ensures) (w .run3 .ensures) (x .run4 .ensures) .wrote)
-
-returns-2 : tie.Need-returns-2
-returns-2 c =
-    let x = c .before .before in
-    let w = x .before .before .before .before in
-    let v = w .before .before .before .before in
-    let u = v .before .before .before .before in
-    let s = u .before .before .before .before .before .before in
-    evaluate-done (s .pre) (u .run .ensures) (v .run2 .ensures) (w .run3 .ensures) (x .run4 .ensures)
+    (sym (w .changes-file .ensures) ∙ c .if1 .left))
 
 pub evaluate-spec : {M : Type 1} → statement M
-evaluate-spec =
-    tie.close
-    (tie.spec
-    changes-file-requires
-    returns
-    run-requires
-    run-requires-2
-    run-requires-3
-    run-requires-4
-    same-length
-    returns-2)
+evaluate-spec = tie.close (tie.spec changes-file-requires run-passes-requires same-length returns returns-2)

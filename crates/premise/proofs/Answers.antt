@@ -15,7 +15,7 @@ use Rattle.premise.specs.declared.Answer.{Answer}
 use Rattle.premise.specs.declared.Answer.the-variants.{Accepted, ShortBuffer, NotWellKept, MalformedRecord, NoSuchPremise}
 use Rattle.premise.specs.declared.Answer.the-variants.{PremiseHeld, BookFull, OrderOpen, ReferenceHeld, DayOutOfRange, NoSwitchDate}
 use Rattle.premise.specs.declared.Answer.the-variants.{NotFirstIn, RetailerShareFull, StackFull, NoSuchOrder, StatusNotTaken}
-use Rattle.premise.specs.declared.Answer.the-variants.{NotNextDay}
+use Rattle.premise.specs.declared.Answer.the-variants.{CounterNotAbove, OrderInWindow, NotNextDay}
 use Rattle.premise.specs.Steps.{is}
 use Rattle.premise.specs.Refusals.{Row, number, firstRow, rows, isHeld, premiseRows, orderRows}
 use Rattle.premise.specs.OnePremise.{State, Given, effectOn, decide, refused, step}
@@ -73,6 +73,8 @@ decided RetailerShareFull done s h = refl
 decided StackFull done s h = refl
 decided NoSuchOrder done s h = refl
 decided StatusNotTaken done s h = refl
+decided CounterNotAbove done s h = refl
+decided OrderInWindow done s h = refl
 decided NotNextDay done s h = refl
 
 -- a property of what is done and of a refusal is one of what is decided

@@ -20,7 +20,7 @@ blank-is o h =
     let k =
     pass-each (eqb (o .reference) 0)
     (eqb (o .kind) 0 ∷ eqb (o .submitter) 0 ∷ eqb (o .requested) 0 ∷ eqb (o .scheduled) 0 ∷ eqb (o .status) 0
-    ∷ eqb (o .waited .0) 0 ∷ eqb (o .pending .0) 0 ∷ eqb (o .told) 0 ∷ []) h in
+    ∷ eqb (o .waited .0) 0 ∷ eqb (o .pending .0) 0 ∷ eqb (o .told) 0 ∷ eqb (o .counter) 0 ∷ []) h in
     λ i.
     record {
       reference = eqb-true (o .reference) 0 (k .0) i;
@@ -32,6 +32,7 @@ blank-is o h =
       waited = businessDays (eqb-true (o .waited .0) 0 (k .1 .1 .1 .1 .1 .1 .0) i);
       pending = calendarDays (eqb-true (o .pending .0) 0 (k .1 .1 .1 .1 .1 .1 .1 .0) i);
       told = eqb-true (o .told) 0 (k .1 .1 .1 .1 .1 .1 .1 .1 .0) i;
+      counter = eqb-true (o .counter) 0 (k .1 .1 .1 .1 .1 .1 .1 .1 .1 .0) i;
     }
 
 pub blank-passes : isBlank blank ≡ true

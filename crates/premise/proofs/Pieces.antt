@@ -7,6 +7,7 @@ use Rattle.premise.specs.Pieces.Document.{limits, reviews, permits, swit
 use Rattle.premise.specs.Pieces.Records.{created, ordered, scheduledOrPermitted, unexecuteds, readings, cancels, evaluations}
 use Rattle.premise.specs.Pieces.Clock.{reviewsEnd, permitsEnd, cancelsEnd}
 use Rattle.premise.specs.Pieces.Evaluation.{sameDay, drops, overtaken, losing}
+use Rattle.premise.specs.Pieces.DateChange.{redates, redatedOnTape, redatesRefused}
 use Rattle.premise.specs.Pieces.Refusals.{firstIn, statuses, premises, dayLimits, stacks, shares}
 use Rattle.premise.specs.Pieces.Kept.{keptOrders, keptFiles, numbers}
 use Rattle.premise.specs.Pieces.{pieces}
@@ -129,6 +130,18 @@ shares-hold : Hold shares
 unfolding failed shares
 shares-hold = record { none = refl }
 
+redates-hold : Hold redates
+unfolding failed redates
+redates-hold = record { none = refl }
+
+redatedOnTape-hold : Hold redatedOnTape
+unfolding failed redatedOnTape
+redatedOnTape-hold = record { none = refl }
+
+redatesRefused-hold : Hold redatesRefused
+unfolding failed redatesRefused
+redatesRefused-hold = record { none = refl }
+
 keptOrders-hold : Hold keptOrders
 unfolding failed keptOrders
 keptOrders-hold = record { none = refl }
@@ -145,5 +158,5 @@ pub set-pieces : failed pieces ≡ []
 set-pieces = (limits-hold also reviews-hold also permits-hold also switches-hold also tape-hold also created-hold also ordered-hold also
     scheduledOrPermitted-hold also unexecuteds-hold also readings-hold also cancels-hold also evaluations-hold also reviewsEnd-hold also
     permitsEnd-hold also cancelsEnd-hold also sameDay-hold also drops-hold also overtaken-hold also losing-hold also firstIn-hold also
-    statuses-hold also premises-hold also dayLimits-hold also stacks-hold also shares-hold also keptOrders-hold also keptFiles-hold also
+    statuses-hold also premises-hold also dayLimits-hold also stacks-hold also shares-hold also redates-hold also redatedOnTape-hold also redatesRefused-hold also keptOrders-hold also keptFiles-hold also
     numbers-hold) .none

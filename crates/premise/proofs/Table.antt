@@ -18,7 +18,7 @@ use Rattle.premise.specs.declared.Answer.{Answer}
 use Rattle.premise.specs.declared.Answer.the-variants.{Accepted, ShortBuffer, NotWellKept, MalformedRecord, NoSuchPremise}
 use Rattle.premise.specs.declared.Answer.the-variants.{PremiseHeld, BookFull, OrderOpen, ReferenceHeld, DayOutOfRange, NoSwitchDate}
 use Rattle.premise.specs.declared.Answer.the-variants.{NotFirstIn, RetailerShareFull, StackFull, NoSuchOrder, StatusNotTaken}
-use Rattle.premise.specs.declared.Answer.the-variants.{NotNextDay}
+use Rattle.premise.specs.declared.Answer.the-variants.{CounterNotAbove, OrderInWindow, NotNextDay}
 use Rattle.premise.specs.Orders.{mostOrders, mostOfOne, isOpen, openOf}
 use Rattle.premise.specs.Refusals.{Row, number, firstRow, inFrontOf, fromRow, premiseRows, orderRows, rows}
 use Rattle.premise.specs.Laws.{AcceptedIsZero, FullIsSix, NoRow6, NeedsFile, CreateHeld, PremiseRowNumbers, OrderRowNumbers}
@@ -26,12 +26,13 @@ use Rattle.premise.proofs.Answers.{holds}
 use Rattle.premise.specs.Laws.{BookAnswers, RoomFrom26, rowNumbers}
 
 -- ---- the numbers of the answers
--- the answers in the order of their numbers, by which a number names its answer; 16 to 25 name none
+-- the answers in the order of their numbers, by which a number names its answer; 18 to 25 name none
 abbrev answers : List Answer
 answers =
     (Accepted ∷ ShortBuffer ∷ NotWellKept ∷ MalformedRecord ∷ NoSuchPremise ∷ PremiseHeld ∷ BookFull ∷ OrderOpen
-    ∷ ReferenceHeld ∷ DayOutOfRange ∷ NoSwitchDate ∷ NotFirstIn ∷ StackFull ∷ NoSuchOrder ∷ StatusNotTaken ∷ NotNextDay ∷ [])
-    ++ replicate 10 Accepted ++ (RetailerShareFull ∷ [])
+    ∷ ReferenceHeld ∷ DayOutOfRange ∷ NoSwitchDate ∷ NotFirstIn ∷ StackFull ∷ NoSuchOrder ∷ StatusNotTaken ∷ NotNextDay
+    ∷ CounterNotAbove ∷ OrderInWindow ∷ [])
+    ++ replicate 8 Accepted ++ (RetailerShareFull ∷ [])
 
 named-back : (answer : Answer) → getD answers (number answer) Accepted ≡ answer
 unfolding number
@@ -51,6 +52,8 @@ named-back RetailerShareFull = refl
 named-back StackFull = refl
 named-back NoSuchOrder = refl
 named-back StatusNotTaken = refl
+named-back CounterNotAbove = refl
+named-back OrderInWindow = refl
 named-back NotNextDay = refl
 
 pub same-number : (one other : Answer) → number one ≡ number other → one ≡ other

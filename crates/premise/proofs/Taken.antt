@@ -1,12 +1,13 @@
 -- From which statuses, and for which kinds of order, a record is taken, by the record's kind. Assumes nothing.
 use Prim.Native.Nat.{ℕ}
 use mathlib.Core.Path.{_≡_, refl, ap, _∙_}
-use mathlib.Core.Bool.{Bool, true, false, _&&_, _||_, or-false}
+use mathlib.Core.Bool.{Bool, true, false, _&&_, _||_, and-assoc, or-false}
 use lib.Dec.{leb}
 use borrow.Author.Tests.{ne-eqb, eqb-true}
 use Rattle.lists.proofs.TestLaws.{and-right, or-either}
 use Rattle.records.specs.declared.Record.{Record}
-use Rattle.records.specs.Records.{kindScheduled, kindPermit, kindUnexecutable, kindRead, kindCancel, kindReply, moveIn}
+use Rattle.records.specs.Records.{kindScheduled, kindPermit, kindUnexecutable, kindRead, kindCancel, kindReply, kindDateChange}
+use Rattle.records.specs.Records.{moveIn, moveOut}
 use Rattle.premise.specs.declared.Order.{Order}
 use Rattle.premise.specs.Orders.{inReview, permitPending, scheduled, cancelPending, hasStatus, hasKind, isOpen}
 use Rattle.premise.specs.Steps.{is, taken}
@@ -49,13 +50,18 @@ module _ (r : Record) (o : Order) where
 
   pub taken-reply : r .kind ≡ kindReply → taken r o ≡ hasStatus cancelPending o
   unfolding taken
-  taken-reply e = taken-by kindReply e
+  taken-reply e = taken-by kindReply e ∙ simp or-false refl
+
+  pub taken-date-change : r .kind ≡ kindDateChange
+      → taken r o ≡ ((hasKind moveIn o || hasKind moveOut o) && (hasStatus inReview o || hasStatus scheduled o))
+  unfolding taken
+  taken-date-change e = taken-by kindDateChange e ∙ simp and-assoc refl
 
   pub taken-none : (r .kind ≡ kindScheduled → ⊥) → (r .kind ≡ kindPermit → ⊥) → (r .kind ≡ kindUnexecutable → ⊥) → (r .kind ≡ kindRead → ⊥)
-      → (r .kind ≡ kindCancel → ⊥) → (r .kind ≡ kindReply → ⊥)
+      → (r .kind ≡ kindCancel → ⊥) → (r .kind ≡ kindReply → ⊥) → (r .kind ≡ kindDateChange → ⊥)
       → taken r o ≡ false
   unfolding taken
-  taken-none s p u m c a =
+  taken-none s p u m c a d =
       simp (
         ne-eqb (r .kind) kindScheduled s,
         ne-eqb (r .kind) kindPermit p,
@@ -64,6 +70,7 @@ module _ (r : Record) (o : Order) where
             m,
         ne-eqb (r .kind) kindCancel c,
         ne-eqb (r .kind) kindReply a,
+        ne-eqb (r .kind) kindDateChange d,
       )
 
 -- ---- whatever the kind, only an open order is taken
@@ -89,7 +96,10 @@ module _ (r : Record) (o : Order) where
       let c : Bool = is kindUnexecutable r && isOpen o in
       let d : Bool = is kindRead r && (hasStatus scheduled o || hasStatus permitPending o) in
       let e : Bool = is kindCancel r && reviewedOr scheduled in
-      or-either (a || b || c || d || e) (is kindReply r && hasStatus cancelPending o) t
+      let g : Bool = is kindReply r && hasStatus cancelPending o in
+      let date : Bool = is kindDateChange r && (hasKind moveIn o || hasKind moveOut o) in
+      or-either (a || b || c || d || e || g) (date && (hasStatus inReview o || hasStatus scheduled o)) t
+      (λ t. or-either (a || b || c || d || e) g t
       (λ t. or-either (a || b || c || d) e t
       (λ t. or-either (a || b || c) d t
       (λ t. or-either (a || b) c t
@@ -101,4 +111,7 @@ module _ (r : Record) (o : Order) where
       (and-right (is kindRead r) (hasStatus scheduled o || hasStatus permitPending o) t)
       (status-open scheduled o refl) (status-open permitPending o refl)))
       (λ t. reviewed-or scheduled refl (and-right (is kindCancel r) (reviewedOr scheduled) t)))
-      (λ t. status-open cancelPending o refl (and-right (is kindReply r) (hasStatus cancelPending o) t))
+      (λ t. status-open cancelPending o refl (and-right (is kindReply r) (hasStatus cancelPending o) t)))
+      (λ t. or-either (hasStatus inReview o) (hasStatus scheduled o)
+      (and-right date (hasStatus inReview o || hasStatus scheduled o) t)
+      (status-open inReview o refl) (status-open scheduled o refl))

@@ -71,7 +71,7 @@ PremiseRowNumbers = (file : Option File) (r : Record) → rowNumbers (premiseRow
 abbrev pub OrderRowNumbers : Type 0
 OrderRowNumbers =
     (calendar : List ℕ) (today : ℕ) (os : List Order) (r : Record)
-    → rowNumbers (orderRows calendar today os r) ≡ 7 ∷ 8 ∷ 9 ∷ 10 ∷ 11 ∷ 26 ∷ 12 ∷ 13 ∷ 14 ∷ 15 ∷ []
+    → rowNumbers (orderRows calendar today os r) ≡ 7 ∷ 8 ∷ 9 ∷ 10 ∷ 11 ∷ 26 ∷ 12 ∷ 13 ∷ 14 ∷ 16 ∷ 17 ∷ 15 ∷ []
 
 -- .. and of the answers that the book's own rows give.
 abbrev pub BookAnswers : Type 0
@@ -95,7 +95,7 @@ NoRow6 = (calendar : List ℕ) (today : ℕ) (file : Option File) (r : Record) �
 abbrev pub CreatePasses : Type 0
 CreatePasses = (r : Record) (more : List Row) → is kindCreate r ≡ true → firstRow (premiseRows none r ++ more) ≡ firstRow more
 
--- for a record of kinds 2 to 9 of a premise without a file row 4 is the first that holds, whatever rows come after it
+-- for a record that needs a premise, of one without a file, row 4 is the first that holds, whatever rows come after it
 abbrev pub NeedsFile : Type 0
 NeedsFile = (r : Record) (more : List Row) → needsPremise r ≡ true → firstRow (premiseRows none r ++ more) ≡ NoSuchPremise
 

@@ -44,15 +44,15 @@ followed first next = record { file = next (first .file) .file; notices = first 
 unfoldable pub marked : List ℕ → ℕ → File → Effect
 marked calendar today f = followed (onFile f (clock calendar today (f .premise) (held f))) (evaluated calendar today)
 
--- kinds 4 to 9 on the order that they name; without one they would not have been accepted
-abbrev pub atPlace : File → Record → Found → Effect
-atPlace f r (At i) = changed f r i (orderAt (held f) (At i))
-atPlace f r Nothing = record { file = f; notices = [] }
+-- kinds 4 to 9 and 11 on the order that they name; without one they would not have been accepted
+abbrev pub atPlace : List ℕ → ℕ → File → Record → Found → Effect
+atPlace calendar today f r (At i) = changed calendar today f r i (orderAt (held f) (At i))
+atPlace calendar today f r Nothing = record { file = f; notices = [] }
 
--- an accepted record 3 to 9 on its file: the steps of its kind, then the evaluation
+-- an accepted record 3 to 9, or 11, on its file: the steps of its kind, then the evaluation
 unfoldable pub stepped : List ℕ → ℕ → File → Record → Effect
 stepped calendar today f r =
-    followed (cond (is kindNewOrder r) (ordered calendar today f r) (atPlace f r (named r (held f)))) (evaluated calendar today)
+    followed (cond (is kindNewOrder r) (ordered calendar today f r) (atPlace calendar today f r (named r (held f)))) (evaluated calendar today)
 
 -- accepted, with the notices of its kind's steps
 abbrev pub accepted : List Notice → State → Given
@@ -73,7 +73,7 @@ effectOnNone today r =
     (accepted [] (record { today = cond (is kindDayMark r) (r .day) today; file = none }))
 
 -- .. kind 2 takes it away, kinds 3 to 9 end with its evaluation, and a day mark sets T and then, if there is a file, does its clock and
--- evaluation.
+-- evaluation. Document 02, change 1, of kind 11: "it ends with the file's evaluation".
 abbrev pub effectOnFile : List ℕ → ℕ → File → Record → Given
 effectOnFile calendar today f r =
     cond (is kindRetire r) (accepted [] (record { today = today; file = none }))

@@ -90,6 +90,7 @@ withStatus status o =
       waited = o .waited;
       pending = o .pending;
       told = o .told;
+      counter = o .counter;
     }
 
 -- SD
@@ -105,6 +106,7 @@ withScheduled day o =
       waited = o .waited;
       pending = o .pending;
       told = o .told;
+      counter = o .counter;
     }
 
 -- N
@@ -120,6 +122,7 @@ withWaited days o =
       waited = businessDays days;
       pending = o .pending;
       told = o .told;
+      counter = o .counter;
     }
 
 -- W
@@ -135,6 +138,7 @@ withPending days o =
       waited = o .waited;
       pending = calendarDays days;
       told = o .told;
+      counter = o .counter;
     }
 
 abbrev pub withTold : ℕ → Order → Order
@@ -149,6 +153,7 @@ withTold told o =
       waited = o .waited;
       pending = o .pending;
       told = told;
+      counter = o .counter;
     }
 
 -- Cancelled, W 0. (Only Cancel Pending counts W: elsewhere it is 0 already.)
@@ -167,6 +172,7 @@ blank = record {
   waited = businessDays 0;
   pending = calendarDays 0;
   told = 0;
+  counter = 0;
 }
 
 -- the orders that a file holds, oldest first

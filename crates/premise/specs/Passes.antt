@@ -1,15 +1,16 @@
 -- What is done to an order, to a file's orders one after another, and to a file: what is there afterwards, and the notices.
 use Prim.Native.Nat.{ℕ, suc}
 use mathlib.Core.List.{List, [], _∷_, _++_}
-use mathlib.Core.Bool.{cond}
-use lib.Dec.{leb}
+use mathlib.Core.Bool.{cond, _||_}
+use lib.Dec.{eqb, leb}
 use Rattle.records.specs.declared.Notice.{Notice}
 use Rattle.records.specs.Notices.{tdsp}
 use Rattle.premise.specs.declared.Order.{Order}
 use Rattle.premise.specs.declared.File.{File}
 use Rattle.premise.specs.Orders.{asCancelled, withOrders}
 
--- The notice codes: 1 814_03, 2 814_24, 3 814_05 or 814_25, 4 814_06, 5 814_08, 6 814_28 permit, 7 814_28 unexecutable, 8 814_09 reject.
+-- The notice codes: 1 814_03, 2 814_24, 3 814_05 or 814_25, 4 814_06, 5 814_08, 6 814_28 permit, 7 814_28 unexecutable, 8 814_09 reject;
+-- 9 814_12 of document 02, change 1.
 abbrev pub codeOrder : ℕ
 codeOrder = 1
 
@@ -34,9 +35,12 @@ codeUnexecutable = 7
 abbrev pub codeReject : ℕ
 codeReject = 8
 
--- A notice's day: RD in codes 1 and 2 and otherwise SD.
+abbrev pub codeDateChange : ℕ
+codeDateChange = 9
+
+-- A notice's day: RD in codes 1 and 2 and otherwise SD. Document 02, change 1: "In notice 9 the day is the new RD."
 abbrev pub dayIn : ℕ → Order → ℕ
-dayIn code o = cond (leb code codeMoveOut) (o .requested) (o .scheduled)
+dayIn code o = cond (leb code codeMoveOut || eqb code codeDateChange) (o .requested) (o .scheduled)
 
 -- a notice on an order, which stands as the step left it
 abbrev pub notice : ℕ → ℕ → ℕ → Order → Notice

@@ -1,6 +1,7 @@
--- Document 01, "Set pieces": one list of cases, by topic. proofs/Pieces.antt proves that none of them fails.
+-- Document 01, "Set pieces", and what document 02 adds: one list of cases, by topic. proofs/Pieces.antt proves that none of them fails.
 use mathlib.Core.List.{List, _++_}
 pub mod Clock
+pub mod DateChange
 pub mod Document
 pub mod Evaluation
 pub mod Forms
@@ -12,6 +13,7 @@ use Rattle.premise.specs.Pieces.Document.{limits, reviews, permits, swit
 use Rattle.premise.specs.Pieces.Records.{created, ordered, scheduledOrPermitted, unexecuteds, readings, cancels, evaluations}
 use Rattle.premise.specs.Pieces.Clock.{reviewsEnd, permitsEnd, cancelsEnd}
 use Rattle.premise.specs.Pieces.Evaluation.{sameDay, drops, overtaken, losing}
+use Rattle.premise.specs.Pieces.DateChange.{redates, redatedOnTape, redatesRefused}
 use Rattle.premise.specs.Pieces.Refusals.{firstIn, statuses, premises, dayLimits, stacks, shares}
 use Rattle.premise.specs.Pieces.Kept.{keptOrders, keptFiles, numbers}
 
@@ -22,4 +24,5 @@ pieces =
     ++ reviewsEnd ++ permitsEnd ++ cancelsEnd
     ++ sameDay ++ drops ++ overtaken ++ losing
     ++ firstIn ++ statuses ++ premises ++ dayLimits ++ stacks ++ shares
+    ++ redates ++ redatedOnTape ++ redatesRefused
     ++ keptOrders ++ keptFiles ++ numbers

@@ -1,6 +1,6 @@
 -- Document 01, "The book": the table of refusals. The rows of the one-premise rules, in its order: 4 and 5, which go by whether there is a
--- file, and 7 to 15, with 26 of document 02, change 12, between 11 and 12. Row 3 goes by the record's bytes alone (`reading`); rows 1, 2
--- and 6 are the book's.
+-- file, and 7 to 15, with 26 of document 02, change 12, between 11 and 12, and 16 and 17 of its change 1 after 14. Row 3 goes by the
+-- record's bytes alone (`reading`); rows 1, 2 and 6 are the book's.
 use Prim.Native.Nat.{ℕ, _+_}
 use mathlib.Core.List.{List, [], _∷_, _++_}
 use mathlib.Core.Option.{Option, none, some}
@@ -10,17 +10,18 @@ use Rattle.lists.specs.Search.{anyOf, countOf}
 use Rattle.lists.specs.declared.Found.{Found}
 use Rattle.lists.specs.declared.Found.the-variants.{At, Nothing}
 use Rattle.days.specs.Days.{noDay, switchDate}
+use Rattle.days.specs.Window.{windowWidth, inWindow}
 use Rattle.records.specs.declared.Record.{Record}
 use Rattle.records.specs.Records.{kindCreate, kindRetire, kindNewOrder, kindScheduled, kindCancel, kindReply, kindDayMark, moveIn, moveOut}
-use Rattle.records.specs.Records.{standardSwitch, selfSelectedSwitch}
+use Rattle.records.specs.Records.{kindDateChange, standardSwitch, selfSelectedSwitch, counterOf}
 use Rattle.premise.specs.declared.Order.{Order}
 use Rattle.premise.specs.declared.File.{File}
 use Rattle.premise.specs.declared.Answer.{Answer}
 use Rattle.premise.specs.declared.Answer.the-variants.{Accepted, ShortBuffer, NotWellKept, MalformedRecord, NoSuchPremise}
 use Rattle.premise.specs.declared.Answer.the-variants.{PremiseHeld, BookFull, OrderOpen, ReferenceHeld, DayOutOfRange, NoSwitchDate}
 use Rattle.premise.specs.declared.Answer.the-variants.{NotFirstIn, RetailerShareFull, StackFull, NoSuchOrder, StatusNotTaken}
-use Rattle.premise.specs.declared.Answer.the-variants.{NotNextDay}
-use Rattle.premise.specs.Orders.{mostOrders, mostOfOne, isOpen, openOf, held}
+use Rattle.premise.specs.declared.Answer.the-variants.{CounterNotAbove, OrderInWindow, NotNextDay}
+use Rattle.premise.specs.Orders.{mostOrders, mostOfOne, scheduled, hasStatus, isOpen, openOf, held}
 use Rattle.premise.specs.Steps.{is, requestedDay, named, orderAt, taken}
 use Rattle.premise.specs.FirstIn.{notFirstIn}
 
@@ -42,6 +43,8 @@ number RetailerShareFull = 26
 number StackFull = 12
 number NoSuchOrder = 13
 number StatusNotTaken = 14
+number CounterNotAbove = 16
+number OrderInWindow = 17
 number NotNextDay = 15
 
 -- a row: what is returned, and when
@@ -80,12 +83,21 @@ outOfRange today requested = ltb (today + mostAhead) requested || ltb (requested
 abbrev pub limited : ℕ → Bool
 limited kind = eqb kind moveIn || eqb kind moveOut || eqb kind selfSelectedSwitch
 
--- On 2 to 9: the kinds that need a premise. On 4 to 9: those that name an order.
+-- On 2 to 9: the kinds that need a premise. On 4 to 9: those that name an order. Document 02, change 1, of kind 11: "Rows 4 and 13 apply to
+-- it, row 9 doesn't".
 abbrev pub needsPremise : Record → Bool
-needsPremise r = leb kindRetire (r .kind) && leb (r .kind) kindReply
+needsPremise r = leb kindRetire (r .kind) && leb (r .kind) kindReply || is kindDateChange r
 
 abbrev pub namesOrder : Record → Bool
-namesOrder r = leb kindScheduled (r .kind) && leb (r .kind) kindReply
+namesOrder r = leb kindScheduled (r .kind) && leb (r .kind) kindReply || is kindDateChange r
+
+-- Document 02, change 1. "16 when the counter is not above the kept one".
+abbrev pub notAbove : Record → Order → Bool
+notAbove r o = is kindDateChange r && leb (counterOf r) (o .counter)
+
+-- "17 when the order is Scheduled and in window".
+abbrev pub tooLate : List ℕ → ℕ → Record → Order → Bool
+tooLate calendar today r o = is kindDateChange r && hasStatus scheduled o && inWindow calendar windowWidth today (o .scheduled)
 
 abbrev pub isHeld : Option File → Bool
 isHeld none = false
@@ -108,7 +120,7 @@ premiseRows file r =
     ∷ []
 
 -- Rows 7 to 15, by the file's orders. Document 02, change 12: "26 when a new order's Q already has 4 or more open orders at the premise,
--- after 11 and before 12; it is among the one-premise rows."
+-- after 11 and before 12; it is among the one-premise rows." Change 1: "16 when .., after 14. 17 when .., after 16."
 unfoldable pub orderRows : List ℕ → ℕ → List Order → Record → List Row
 orderRows calendar today os r =
     row OrderOpen (is kindRetire r && anyOf isOpen os)
@@ -121,6 +133,8 @@ orderRows calendar today os r =
     ∷ row NoSuchOrder (namesOrder r
     && (isNothing (named r os) || is kindCancel r && not (eqb (r .retailer) (orderAt os (named r os) .submitter))))
     ∷ row StatusNotTaken (namesOrder r && not (taken r (orderAt os (named r os))))
+    ∷ row CounterNotAbove (notAbove r (orderAt os (named r os)))
+    ∷ row OrderInWindow (tooLate calendar today r (orderAt os (named r os)))
     ∷ row NotNextDay (is kindDayMark r && not (eqb (r .day) (today + 1)))
     ∷ []
 

@@ -1,4 +1,5 @@
--- Document 01, "Records": the steps of each record kind on a file, before the evaluation that ends kinds 3 to 9.
+-- Document 01, "Records": the steps of each record kind on a file, before the evaluation that ends kinds 3 to 9, and 11 of document 02,
+-- change 1.
 use Prim.Native.Nat.{ℕ}
 use mathlib.Core.List.{List, [], _∷_, _++_}
 use mathlib.Core.Bool.{Bool, cond, not, _&&_, _||_}
@@ -11,14 +12,14 @@ use Rattle.days.specs.Days.{noDay, isDay, isBusinessDay, switchDate}
 use Rattle.records.specs.declared.Record.{Record}
 use Rattle.records.specs.Notices.{tdsp}
 use Rattle.records.specs.Records.{kindScheduled, kindPermit, kindUnexecutable, kindRead, kindCancel, kindReply, moveIn, moveOut}
-use Rattle.records.specs.Records.{standardSwitch, replyAccept}
+use Rattle.records.specs.Records.{kindDateChange, standardSwitch, replyAccept, counterOf}
 use Rattle.premise.specs.declared.Order.{Order}
 use Rattle.premise.specs.declared.File.{File}
 use Rattle.premise.specs.Orders.{mostOrders, inReview, permitPending, scheduled, cancelPending, complete, cancelled, unexecutable}
 use Rattle.premise.specs.Orders.{hasStatus, hasKind, isOpen, isClosed, noRetailer, businessDays, calendarDays, withStatus}
 use Rattle.premise.specs.Orders.{withScheduled, withWaited, withPending, blank, held, withOrders, withSupply}
 use Rattle.premise.specs.Passes.{Change, Effect, notice, codeOrder, codeMoveOut, codeScheduled, codeCancel, codePermit}
-use Rattle.premise.specs.Passes.{codeUnexecutable, codeReject}
+use Rattle.premise.specs.Passes.{codeUnexecutable, codeReject, codeDateChange}
 
 -- whether a record is of a kind
 abbrev pub is : ℕ → Record → Bool
@@ -32,7 +33,11 @@ newFile r = record { premise = r .premise; retailer = r .retailer; since = r .da
 unfoldable pub requestedDay : List ℕ → ℕ → Record → ℕ
 requestedDay calendar today r = cond (eqb (r .detail) standardSwitch) (switchDate calendar today) (r .day)
 
--- It starts In Review, SD none, W and told 0, N 1 if T is a business day, else 0.
+-- N 1 if T is a business day, else 0.
+abbrev pub waitBegun : List ℕ → ℕ → ℕ
+waitBegun calendar today = cond (isBusinessDay calendar today) 1 0
+
+-- It starts In Review, SD none, W and told 0. Document 02, change 1: "The order keeps the last counter, 0 at first."
 abbrev pub newOrder : List ℕ → ℕ → Record → Order
 newOrder calendar today r =
     record {
@@ -42,9 +47,10 @@ newOrder calendar today r =
       requested = requestedDay calendar today r;
       scheduled = noDay;
       status = inReview;
-      waited = businessDays (cond (isBusinessDay calendar today) 1 0);
+      waited = businessDays (waitBegun calendar today);
       pending = calendarDays 0;
       told = 0;
+      counter = 0;
     }
 
 -- If 8 orders are held, the oldest closed one is dropped.
@@ -59,7 +65,7 @@ ordered calendar today f r =
       notices = notice (cond (eqb (r .detail) moveOut) codeMoveOut codeOrder) (f .premise) tdsp (newOrder calendar today r) ∷ [];
     }
 
--- Kinds 4 to 9 name an order by its reference: its place among a file's orders.
+-- Kinds 4 to 9 and 11 name an order by its reference: its place among a file's orders.
 abbrev pub named : Record → List Order → Found
 named r os = placeOf (λ (o : Order). eqb (o .reference) (r .reference)) os
 
@@ -68,7 +74,8 @@ abbrev pub orderAt : List Order → Found → Order
 orderAt os (At i) = getD os i blank
 orderAt os Nothing = blank
 
--- From which statuses, and for which K, each of these kinds is taken.
+-- From which statuses, and for which K, each of these kinds is taken. Document 02, change 1, of kind 11: "It is for move in and move out in
+-- status 1 or 3".
 unfoldable pub taken : Record → Order → Bool
 taken r o =
     is kindScheduled r && (hasStatus inReview o || hasStatus permitPending o || hasStatus cancelPending o)
@@ -77,6 +84,7 @@ taken r o =
     || is kindRead r && (hasStatus scheduled o || hasStatus permitPending o)
     || is kindCancel r && (hasStatus inReview o || hasStatus permitPending o || hasStatus scheduled o)
     || is kindReply r && hasStatus cancelPending o
+    || is kindDateChange r && (hasKind moveIn o || hasKind moveOut o) && (hasStatus inReview o || hasStatus scheduled o)
 
 -- 4 scheduled: Scheduled, SD the day, W 0. Notice 3 to Q.
 unfoldable pub onScheduled : File → Record → Order → Change
@@ -153,10 +161,43 @@ onOrder f r o =
     (cond (is kindCancel r) (onCancel f r o)
     (onReply f r o)))))
 
--- the same on the file: the order changed in its place
-unfoldable pub changed : File → Record → ℕ → Order → Effect
-changed f r i o =
+-- Document 02, change 1. 11 date change: "When taken, RD is the new day, SD is none, status is In Review, and N restarts as for a new order.
+-- .. Told becomes 0 in every case." The counter is kept; F, K, Q and W stay.
+abbrev pub redated : List ℕ → ℕ → Record → Order → Order
+redated calendar today r o =
     record {
-      file = withOrders (supplied f r o) (set (held f) i (onOrder f r o .order));
-      notices = onOrder f r o .notices;
+      reference = o .reference;
+      kind = o .kind;
+      submitter = o .submitter;
+      requested = r .day;
+      scheduled = noDay;
+      status = inReview;
+      waited = businessDays (waitBegun calendar today);
+      pending = o .pending;
+      told = 0;
+      counter = counterOf r;
+    }
+
+-- "Notice 9 goes to the TDSP, and then to R if the order is a move in, told is 1 and R is not 0": as they were before the record.
+unfoldable pub onDateChange : List ℕ → ℕ → File → Record → Order → Change
+onDateChange calendar today f r o =
+    record {
+      order = redated calendar today r o;
+      notices =
+          notice codeDateChange (f .premise) tdsp (redated calendar today r o)
+          ∷ cond (hasKind moveIn o && eqb (o .told) 1 && not (eqb (f .retailer) noRetailer))
+          (notice codeDateChange (f .premise) (f .retailer) (redated calendar today r o) ∷ [])
+          [];
+    }
+
+-- the kinds that name an order, on that order
+unfoldable pub onNamed : List ℕ → ℕ → File → Record → Order → Change
+onNamed calendar today f r o = cond (is kindDateChange r) (onDateChange calendar today f r o) (onOrder f r o)
+
+-- the same on the file: the order changed in its place
+unfoldable pub changed : List ℕ → ℕ → File → Record → ℕ → Order → Effect
+changed calendar today f r i o =
+    record {
+      file = withOrders (supplied f r o) (set (held f) i (onNamed calendar today f r o .order));
+      notices = onNamed calendar today f r o .notices;
     }

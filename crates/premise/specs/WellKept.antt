@@ -29,7 +29,7 @@ permitFits o = not (hasStatus permitPending o) || hasKind moveIn o
 abbrev pub pendingFits : Order → Bool
 pendingFits o = cond (hasStatus cancelPending o) (not (leb mostPending (o .pending .0))) (eqb (o .pending .0) 0)
 
--- an order with every field in range
+-- an order with every field in range (of the counter of date changes that is any number of its 32 bits)
 unfoldable pub orderKept : Order → Bool
 orderKept o =
     aReference (o .reference)
@@ -60,6 +60,7 @@ isBlank o =
     && eqb (o .waited .0) 0
     && eqb (o .pending .0) 0
     && eqb (o .told) 0
+    && eqb (o .counter) 0
 
 -- A file is well kept. (It has eight places by its type; the definition, over lists, says so.)
 unfoldable pub fileKept : File → Bool

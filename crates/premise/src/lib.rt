@@ -51,6 +51,8 @@ pub struct Order {
     pub pending: CalendarDays,
     // whether the retailer that loses the premise has been told, 0 or 1
     pub told: u8,
+    // that of the last date change that was taken, 0 before the first
+    pub counter: u32,
 }
 
 // A premise's file. The first `count` places of `orders` hold its orders, oldest first; the others are zero.
@@ -64,8 +66,8 @@ pub struct File {
     pub orders: [Order; 8],
 }
 
-// What a call answers: a name for each row of document 01's table of refusals, with the row of document 02's change 12, and one for
-// acceptance.
+// What a call answers: a name for each row of document 01's table of refusals, with the rows of document 02's changes 1 and 12, and one
+// for acceptance.
 pub enum Answer {
     Accepted,
     ShortBuffer,
@@ -83,6 +85,8 @@ pub enum Answer {
     StackFull,
     NoSuchOrder,
     StatusNotTaken,
+    CounterNotAbove,
+    OrderInWindow,
     NotNextDay,
 }
 

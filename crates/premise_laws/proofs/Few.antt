@@ -18,7 +18,7 @@ use Rattle.premise.specs.declared.File.{File}
 use Rattle.premise.specs.Orders.{mostOrders, held, withOrders}
 use Rattle.premise.specs.Passes.{Outcome, Effect}
 use Rattle.premise.specs.Steps.{is, makeRoom, newOrder, named, orderAt, supplied, ordered, changed, onOrder, onScheduled, onPermit}
-use Rattle.premise.specs.Steps.{onUnexecutable, onRead, onCancel, onReply}
+use Rattle.premise.specs.Steps.{onUnexecutable, onRead, onCancel, onReply, onDateChange, onNamed}
 use Rattle.premise.specs.Clock.{clock, ticked}
 use Rattle.premise.specs.Evaluation.{sameDaySwitches, sameDaySwitch, dropsOnSwitchDays, dropOnSwitchDay, permitsOvertaken, permitOvertaken}
 use Rattle.premise.specs.Evaluation.{lossNotices, lossNotice, evaluation, evaluated}
@@ -85,25 +85,26 @@ mark-few calendar today f k =
     )
 
 -- ---- a record's own steps
-own-few : (f : File) (r : Record) (o : Order) → Sends done 2 (onOrder f r o)
-unfolding onOrder onScheduled onPermit onUnexecutable onRead onCancel onReply
-own-few f r o = search (few, sends-either, sends-two) depth 12
+own-few : (calendar : List ℕ) (today : ℕ) (f : File) (r : Record) (o : Order) → Sends done 2 (onNamed calendar today f r o)
+unfolding onNamed onDateChange onOrder onScheduled onPermit onUnexecutable onRead onCancel onReply
+own-few calendar today f r o = search (few, sends-either, sends-two) depth 14
 
 -- at most two notices, and at most eight orders afterwards
 record Few (e : Effect) : Type 0 where
   notices : length (e .notices) ≤ 2
   orders : length (held (e .file)) ≤ mostOrders
 
-place-few : (f : File) (r : Record) (place : Found) → f .count ≤ mostOrders → Few (atPlace f r place)
+place-few : (calendar : List ℕ) (today : ℕ) (f : File) (r : Record) (place : Found) → f .count ≤ mostOrders
+    → Few (atPlace calendar today f r place)
 unfolding changed
-place-few f r (At i) h =
+place-few calendar today f r (At i) h =
     let o : Order = orderAt (held f) (At i) in
-    let after : Order = onOrder f r o .order in
+    let after : Order = onNamed calendar today f r o .order in
     record {
-      notices = omega (arith, own-few f r o .fact);
+      notices = omega (arith, own-few calendar today f r o .fact);
       orders = omega (arith, ap length (held-with (supplied f r o) (set (held f) i after)), length-set (held f) i after, held-most f h);
     }
-place-few f r Nothing h = record { notices = omega arith; orders = held-most f h }
+place-few calendar today f r Nothing h = record { notices = omega arith; orders = held-most f h }
 
 new-few : (calendar : List ℕ) (today : ℕ) (f : File) (r : Record) → length (makeRoom (held f)) < mostOrders
     → Few (ordered calendar today f r)
@@ -121,9 +122,9 @@ stepped-few : (calendar : List ℕ) (today : ℕ) (f : File) (r : Record) → f 
     → length (stepped calendar today f r .notices) ≤ mostOfRecord
 unfolding stepped
 stepped-few calendar today f r h room =
-    let first : Effect = cond (is kindNewOrder r) (ordered calendar today f r) (atPlace f r (named r (held f))) in
+    let first : Effect = cond (is kindNewOrder r) (ordered calendar today f r) (atPlace calendar today f r (named r (held f))) in
     let few : Few first =
-    by-test Few (is kindNewOrder r) _ _ (λ e. new-few calendar today f r (room e)) (λ e. place-few f r (named r (held f)) h) in
+    by-test Few (is kindNewOrder r) _ _ (λ e. new-few calendar today f r (room e)) (λ e. place-few calendar today f r (named r (held f)) h) in
     omega (
       arith,
       few .notices,

@@ -41,6 +41,7 @@ anew o status day waited pending lossNotice =
       waited = businessDays waited;
       pending = calendarDays pending;
       told = lossNotice;
+      counter = o .counter;
     }
 
 pub leaves : (o : Order) (status day waited pending lossNotice : ℕ) → OrderKept o

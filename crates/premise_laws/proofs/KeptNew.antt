@@ -17,7 +17,7 @@ use Rattle.lists.specs.Search.{anyOf, countOf, withoutFirst, Each}
 use Rattle.lists.proofs.TestLaws.{by-test, and-other}
 use Rattle.lists.proofs.SearchLaws.{each-append, each-without, any-without, none-found, length-without, count-most, some-fails}
 use Rattle.lists.proofs.SearchLaws.{count-append, count-without}
-use Rattle.days.specs.Days.{lastDay, noDay, isDay, isBusinessDay, switchDate}
+use Rattle.days.specs.Days.{lastDay, noDay, isDay, switchDate}
 use Rattle.days.specs.Laws.{FirstStart, NoStart}
 use Rattle.days.proofs.Laws.{switch-date-is}
 use Rattle.records.specs.declared.Record.{Record}
@@ -25,7 +25,6 @@ use Rattle.records.specs.Records.{kindNewOrder, standardSwitch, unused, wellFor
 use Rattle.premise.specs.declared.Order.{Order}
 use Rattle.premise.specs.declared.File.{File}
 use Rattle.premise.specs.Orders.{mostOrders, mostOfOne, isOpen, isOpenOf, openOf, isClosed, held}
-use Rattle.premise.specs.Clock.{mostWaited}
 use Rattle.premise.specs.Steps.{is, requestedDay, newOrder, makeRoom, ordered, named}
 use Rattle.premise.specs.WellKept.{distinct}
 use Rattle.premise.specs.Refusals.{isNothing}
@@ -34,7 +33,7 @@ use Rattle.premise_laws.proofs.KeptOrders.{OrderKept, orders-facts}
 use Rattle.premise.proofs.KeptFiles.{held-few, held-with}
 use Rattle.premise_laws.proofs.KeptReferences.{hasReference, distinct-without, distinct-more}
 use Rattle.premise_laws.proofs.KeptPasses.{header-of, kept-with}
-use Rattle.premise_laws.proofs.KeptRecords.{order-fits, NoRow}
+use Rattle.premise_laws.proofs.KeptRecords.{wait-few, order-fits, NoRow}
 
 -- ---- room for one more
 -- what holds of a file's orders, and without the oldest closed one, holds of those that are left
@@ -96,7 +95,7 @@ module _ (calendar : List ℕ) (today : ℕ) (f : File) (r : Record) (w : wellFo
         status = refl;
         scheduled = refl;
         permit = refl;
-        waited = by-test (λ (days : ℕ). leb days mostWaited ≡ true) (isBusinessDay calendar today) 1 0 (λ q. refl) (λ q. refl);
+        waited = wait-few calendar today;
         pending = refl;
         told = refl;
       }

@@ -8,18 +8,24 @@ use mathlib.Core.Bool.{Bool, true, false, cond, not, _&&_, _||_, false≢true}
 use lib.Dec.{eqb, leb}
 use borrow.Author.Tests.{eqb-true}
 use Rattle.lists.specs.Search.{anyOf, countOf, Each}
-use Rattle.lists.proofs.TestLaws.{pass-each}
-use Rattle.days.specs.Days.{noDay, isDay, switchDate}
+use Rattle.lists.proofs.TestLaws.{by-test, pass-each}
+use Rattle.days.specs.Days.{noDay, isDay, isBusinessDay, switchDate}
 use Rattle.records.specs.declared.Record.{Record}
-use Rattle.records.specs.Records.{kindCreate, kindRetire, kindNewOrder, kindScheduled, kindRead, kindCancel, kindDayMark, standardSwitch}
-use Rattle.records.specs.Records.{aReference, aPremise, aRetailer, aRetailerOrNone, anOrderKind, orderDay, unused, wellFormed}
+use Rattle.records.specs.Records.{kindCreate, kindRetire, kindNewOrder, kindScheduled, kindRead, kindCancel, kindDayMark, kindDateChange}
+use Rattle.records.specs.Records.{standardSwitch, aReference, aPremise, aRetailer, aRetailerOrNone, aCounter, anOrderKind, orderDay}
+use Rattle.records.specs.Records.{unused, wellFormed}
 use Rattle.records.proofs.ByKind.{formed-at}
 use Rattle.premise.specs.declared.File.{File}
 use Rattle.premise.specs.Orders.{mostOrders, mostOfOne, isOpen, openOf}
-use Rattle.premise.specs.Steps.{is, requestedDay, named, orderAt, taken}
+use Rattle.premise.specs.Clock.{mostWaited}
+use Rattle.premise.specs.Steps.{is, requestedDay, waitBegun, named, orderAt, taken}
 use Rattle.premise.specs.FirstIn.{notFirstIn}
 use Rattle.premise.specs.Refusals.{Row, number, firstRow, premiseRows, orderRows, rows, isHeld, ordersOf, isNothing, needsPremise}
-use Rattle.premise.specs.Refusals.{namesOrder, limited, outOfRange}
+use Rattle.premise.specs.Refusals.{namesOrder, limited, outOfRange, notAbove, tooLate}
+
+-- a wait that begins is within the count
+pub wait-few : (calendar : List ℕ) (today : ℕ) → leb (waitBegun calendar today) mostWaited ≡ true
+wait-few calendar today = by-test (λ (days : ℕ). leb days mostWaited ≡ true) (isBusinessDay calendar today) 1 0 (λ q. refl) (λ q. refl)
 
 -- ---- a well-formed record of a kind
 -- what its fields hold, each by its test
@@ -53,6 +59,10 @@ module _ (r : Record) (w : wellFormed r ≡ true) where
   pub read-fits : is kindRead r ≡ true → Fits unused isDay aReference aPremise unused r
   read-fits e = fields unused isDay aReference aPremise unused r (sym (formed-at kindRead r (eqb-true (r .kind) kindRead e)) ∙ w)
 
+  pub date-change-fits : is kindDateChange r ≡ true → Fits unused isDay aReference aPremise aCounter r
+  date-change-fits e = fields unused isDay aReference aPremise aCounter r
+      (sym (formed-at kindDateChange r (eqb-true (r .kind) kindDateChange e)) ∙ w)
+
 -- ---- no row held
 abbrev Refuses : Row → Type 0
 Refuses row = eqb (number (row .answer)) 0 ≡ false
@@ -84,6 +94,8 @@ pub record NoRow (calendar : List ℕ) (today : ℕ) (file : Option File) (r : R
       && (isNothing (named r (ordersOf file)) || is kindCancel r
       && not (eqb (r .retailer) (orderAt (ordersOf file) (named r (ordersOf file)) .submitter)))) ≡ false
   pub statusNotTaken : (namesOrder r && not (taken r (orderAt (ordersOf file) (named r (ordersOf file))))) ≡ false
+  pub counterNotAbove : notAbove r (orderAt (ordersOf file) (named r (ordersOf file))) ≡ false
+  pub inWindow : tooLate calendar today r (orderAt (ordersOf file) (named r (ordersOf file))) ≡ false
   pub notNextDay : (is kindDayMark r && not (eqb (r .day) (today + 1))) ≡ false
 
 pub no-row : (calendar : List ℕ) (today : ℕ) (file : Option File) (r : Record)
@@ -91,7 +103,7 @@ pub no-row : (calendar : List ℕ) (today : ℕ) (file : Option File) (r : Recor
 unfolding premiseRows orderRows number
 no-row calendar today file r h =
     let k = none-held (rows calendar today file r)
-    (refl, (refl, (refl, (refl, (refl, (refl, (refl, (refl, (refl, (refl, (refl, (refl, tt)))))))))))) h in
+    (refl, (refl, (refl, (refl, (refl, (refl, (refl, (refl, (refl, (refl, (refl, (refl, (refl, (refl, tt)))))))))))))) h in
     record {
       noSuchPremise = k .0;
       premiseHeld = k .1 .0;
@@ -104,5 +116,7 @@ no-row calendar today file r h =
       stackFull = k .1 .1 .1 .1 .1 .1 .1 .1 .0;
       noSuchOrder = k .1 .1 .1 .1 .1 .1 .1 .1 .1 .0;
       statusNotTaken = k .1 .1 .1 .1 .1 .1 .1 .1 .1 .1 .0;
-      notNextDay = k .1 .1 .1 .1 .1 .1 .1 .1 .1 .1 .1 .0;
+      counterNotAbove = k .1 .1 .1 .1 .1 .1 .1 .1 .1 .1 .1 .0;
+      inWindow = k .1 .1 .1 .1 .1 .1 .1 .1 .1 .1 .1 .1 .0;
+      notNextDay = k .1 .1 .1 .1 .1 .1 .1 .1 .1 .1 .1 .1 .1 .0;
     }

@@ -5,13 +5,14 @@ use Prim.Native.Nat.{ℕ}
 use mathlib.Core.Path.{_≡_, refl, sym, ap, ap₂, _∙_}
 use mathlib.Core.List.{List, []}
 use mathlib.Core.Option.{Option, none, some}
-use mathlib.Core.Bool.{Bool, true, false, not, _&&_, and-true}
+use mathlib.Core.Bool.{Bool, true, false, not, _&&_, _||_, and-true, or-true}
 use native.Mathlib.Omega.{arith}
-use lib.Dec.{eqb}
+use lib.Dec.{eqb, leb}
 use borrow.Author.Tests.{eqb-true, eqb-false, le-leb, not-false}
 use Rattle.lists.proofs.TestLaws.{by-test, and-other}
 use Rattle.records.specs.declared.Record.{Record}
-use Rattle.records.specs.Records.{kindCreate, kindRetire, kindNewOrder, kindScheduled, kindReply, kindDayMark, wellFormed}
+use Rattle.records.specs.Records.{kindCreate, kindRetire, kindNewOrder, kindScheduled, kindReply, kindDayMark, kindDateChange}
+use Rattle.records.specs.Records.{wellFormed}
 use Rattle.records.proofs.Formed.{formed}
 use Rattle.premise.specs.declared.File.{File}
 use Rattle.premise.specs.Orders.{held, places}
@@ -38,18 +39,23 @@ LeftBy premise retailer before given = Held (Left premise retailer before) (give
 -- a record that is neither create nor retire, new order nor day mark names an order
 names-order : (r : Record) → wellFormed r ≡ true → is kindCreate r ≡ false → is kindRetire r ≡ false → is kindNewOrder r ≡ false
     → is kindDayMark r ≡ false → namesOrder r ≡ true
-names-order r w c t n d =
-    let k = formed r w .kind in
-    ap₂ (λ (x y : Bool). x && y)
-    (le-leb kindScheduled (r .kind)
-    (omega (
-      arith,
-      k .given,
-      eqb-false (r .kind) kindCreate c,
-      eqb-false (r .kind) kindRetire t,
-      eqb-false (r .kind) kindNewOrder n,
-    )))
-    (le-leb (r .kind) kindReply (omega (arith, k .within, eqb-false (r .kind) kindDayMark d)))
+names-order r w c t n d = go (is kindDateChange r) refl
+  where
+    go : (change : Bool) → is kindDateChange r ≡ change → namesOrder r ≡ true
+    go true e = ap (λ (x : Bool). leb kindScheduled (r .kind) && leb (r .kind) kindReply || x) e ∙ or-true (leb kindScheduled (r .kind) && leb (r .kind) kindReply)
+    go false e =
+        let k = formed r w .kind in
+        ap₂ (λ (x y : Bool). x && y || is kindDateChange r)
+        (le-leb kindScheduled (r .kind)
+        (omega (
+          arith,
+          k .given,
+          eqb-false (r .kind) kindCreate c,
+          eqb-false (r .kind) kindRetire t,
+          eqb-false (r .kind) kindNewOrder n,
+        )))
+        (le-leb (r .kind) kindReply
+        (omega (arith, k .within, eqb-false (r .kind) kindDayMark d, eqb-false (r .kind) kindDateChange e)))
 
 module _ (calendar : List ℕ) (today : ℕ) (r : Record) (premise retailer : ℕ) (w : wellFormed r ≡ true) where
   -- kind 1
@@ -63,7 +69,7 @@ module _ (calendar : List ℕ) (today : ℕ) (r : Record) (premise retailer : �
         share = λ h. omega arith;
       }
 
-  -- kinds 3 to 9
+  -- kinds 3 to 9 and 11
   module _ (f : File) (n : NoRow calendar today (some f) r) (k : KeptFor premise f) where
     -- the order that is named is taken, by row 14
     named-taken : is kindRetire r ≡ false → is kindDayMark r ≡ false → is kindNewOrder r ≡ false
@@ -78,12 +84,12 @@ module _ (calendar : List ℕ) (today : ℕ) (r : Record) (premise retailer : �
     unfolding stepped
     stepped-left t d = ending
         (by-test (λ (e : Effect). Left premise retailer (WithinShare retailer f) (e .file)) (is kindNewOrder r) (ordered calendar today f r)
-        (atPlace f r (named r (held f)))
+        (atPlace calendar today f r (named r (held f)))
         (λ e. record {
           kept = ordered-keeps calendar today f r w n e premise k;
           share = ordered-share calendar today f r w n e retailer;
         })
-        (λ e. let a = named-leaves f r w (named-taken t d e) premise k in
+        (λ e. let a = named-leaves calendar today f r w (named-taken t d e) premise k in
         record { kept = a .kept; share = λ h. omega (arith, h, a .open-of retailer) }))
       where
         -- .. and then the evaluation

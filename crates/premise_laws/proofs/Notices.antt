@@ -16,7 +16,7 @@ use Rattle.premise.specs.declared.File.{File}
 use Rattle.premise.specs.Orders.{held}
 use Rattle.premise.specs.Passes.{Outcome, Effect, andThen, onFile}
 use Rattle.premise.specs.Steps.{is, named, supplied, ordered, changed, onOrder, onScheduled, onPermit, onUnexecutable, onRead, onCancel}
-use Rattle.premise.specs.Steps.{onReply}
+use Rattle.premise.specs.Steps.{onReply, onDateChange, onNamed}
 use Rattle.premise.specs.Clock.{clock, ticked, reviewed, permitAwaited, cancelAwaited}
 use Rattle.premise.specs.Evaluation.{sameDaySwitches, sameDaySwitch, dropsOnSwitchDays, dropOnSwitchDay, permitsOvertaken, permitOvertaken}
 use Rattle.premise.specs.Evaluation.{lossNotices, lossNotice, evaluation, evaluated}
@@ -75,9 +75,9 @@ mark-notices calendar today f =
     (evaluation-of (f .premise) (inWindow calendar windowWidth today) today (f .retailer) _)
 
 -- ---- a record's own steps
-order-of : (f : File) (r : Record) (o : Order) → Speaks (f .premise) (onOrder f r o)
-unfolding onOrder onScheduled onPermit onUnexecutable onRead onCancel onReply
-order-of f r o = search speaking depth 12
+order-of : (calendar : List ℕ) (today : ℕ) (f : File) (r : Record) (o : Order) → Speaks (f .premise) (onNamed calendar today f r o)
+unfolding onNamed onDateChange onOrder onScheduled onPermit onUnexecutable onRead onCancel onReply
+order-of calendar today f r o = search speaking depth 14
 
 premise-either : (b : Bool) (f g : File) → cond b f g .premise ≡ cond b (f .premise) (g .premise)
 premise-either true f g = refl
@@ -96,10 +96,10 @@ record Stays (premise : ℕ) (e : Effect) : Type 0 where
   file : e .file .premise ≡ premise
   notices : Each (Of premise) (e .notices)
 
-place-of : (f : File) (r : Record) (place : Found) → Stays (f .premise) (atPlace f r place)
+place-of : (calendar : List ℕ) (today : ℕ) (f : File) (r : Record) (place : Found) → Stays (f .premise) (atPlace calendar today f r place)
 unfolding changed
-place-of f r (At i) = record { file = supplied-premise f r _; notices = order-of f r _ .all }
-place-of f r Nothing = record { file = refl; notices = tt }
+place-of calendar today f r (At i) = record { file = supplied-premise f r _; notices = order-of calendar today f r _ .all }
+place-of calendar today f r Nothing = record { file = refl; notices = tt }
 
 new-of : (calendar : List ℕ) (today : ℕ) (f : File) (r : Record) → Stays (f .premise) (ordered calendar today f r)
 unfolding ordered
@@ -114,9 +114,9 @@ evaluated-of calendar today premise f e =
 stepped-of : (calendar : List ℕ) (today : ℕ) (f : File) (r : Record) → Each (Of (f .premise)) (stepped calendar today f r .notices)
 unfolding stepped
 stepped-of calendar today f r =
-    let first : Effect = cond (is kindNewOrder r) (ordered calendar today f r) (atPlace f r (named r (held f))) in
+    let first : Effect = cond (is kindNewOrder r) (ordered calendar today f r) (atPlace calendar today f r (named r (held f))) in
     let stays : Stays (f .premise) first =
-    by-test (Stays (f .premise)) (is kindNewOrder r) _ _ (λ e. new-of calendar today f r) (λ e. place-of f r (named r (held f))) in
+    by-test (Stays (f .premise)) (is kindNewOrder r) _ _ (λ e. new-of calendar today f r) (λ e. place-of calendar today f r (named r (held f))) in
     each-followed (Of (f .premise)) first (evaluated calendar today) (stays .notices)
     (evaluated-of calendar today (f .premise) (first .file) (stays .file))
 

@@ -73,7 +73,7 @@ MarkNotices = (calendar : List ℕ) (today : ℕ) (f : File) → Each (Of (f .pr
 abbrev pub MarkFew : Type 0
 MarkFew = (calendar : List ℕ) (today : ℕ) (f : File) → FileKept f → length (marked calendar today f .notices) ≤ 2 * length (held f)
 
--- a record of kinds 1 to 9 gives at most two, and two for each order that is then held
+-- any other record gives at most two, and two for each order that is then held
 abbrev pub mostOfRecord : ℕ
 mostOfRecord = 2 + 2 * mostOrders
 

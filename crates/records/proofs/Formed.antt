@@ -9,8 +9,8 @@ use borrow.Author.Tests.{eqb-true, eqb-false, leb-true, leb-false, not-true}
 use Rattle.lists.proofs.TestLaws.{and-left, and-right, pass-each}
 use Rattle.days.specs.Days.{lastDay, isDay}
 use Rattle.records.specs.declared.Record.{Record}
-use Rattle.records.specs.Records.{kindDayMark, standardSwitch, massTransitionDrop, replyReject, lastRetailer, unused, aReference}
-use Rattle.records.specs.Records.{aPremise, aRetailer, aRetailerOrNone, anOrderKind, aReply, orderDay, wellFormed}
+use Rattle.records.specs.Records.{kindDateChange, standardSwitch, massTransitionDrop, replyReject, lastRetailer, unused, aReference}
+use Rattle.records.specs.Records.{aPremise, aRetailer, aRetailerOrNone, aCounter, anOrderKind, aReply, orderDay, wellFormed}
 use Rattle.records.specs.Kinds.{holds, datedHolds, undatedHolds, holdsByKind}
 use Rattle.records.specs.Laws.{Unused, ADay, Given, ARetailerOrNone, FieldsOfKind, fieldsByKind, Fields, UpTo, OrderDay, Formed}
 use Rattle.records.proofs.ByNumber.{_also_, every-at, Means, means-at}
@@ -80,6 +80,7 @@ by-kind r =
     also are-fields unused unused aReference aPremise aRetailer r is-unused is-unused is-given is-given (is-up-to lastRetailer)
     also are-fields aReply unused aReference aPremise unused r (is-up-to replyReject) is-unused is-given is-given is-unused
     also are-fields unused isDay unused unused unused r is-unused is-day is-unused is-unused is-unused
+    also are-fields unused isDay aReference aPremise aCounter r is-unused is-day is-given is-given is-given
     also tt
 
 -- What a well-formed record of a known kind holds.
@@ -96,17 +97,17 @@ module _ (r : Record) (w : wellFormed r ≡ true) where
           let other = eqb-false (r .kind) 0 e in
           omega arith
 
-  last-kind : r .kind ≤ kindDayMark
-  last-kind = go (leb (r .kind) kindDayMark) refl
+  last-kind : r .kind ≤ kindDateChange
+  last-kind = go (leb (r .kind) kindDateChange) refl
     where
-      go : (b : Bool) → leb (r .kind) kindDayMark ≡ b → r .kind ≤ kindDayMark
-      go true e = leb-true (r .kind) kindDayMark e
-      go false e = absurd (false≢true (sym (formed-past r (leb-false (r .kind) kindDayMark e)) ∙ w))
+      go : (b : Bool) → leb (r .kind) kindDateChange ≡ b → r .kind ≤ kindDateChange
+      go true e = leb-true (r .kind) kindDateChange e
+      go false e = absurd (false≢true (sym (formed-past r (leb-false (r .kind) kindDateChange e)) ∙ w))
 
 -- What a well-formed record of any kind holds.
 pub formed : (r : Record) → wellFormed r ≡ true → Formed r
 formed r w =
-    every-at (λ (k : ℕ). r .kind ≡ k → Formed r) 1 10
+    every-at (λ (k : ℕ). r .kind ≡ k → Formed r) 1 11
     ((λ e. let f = fields-at 1 r w e in omega arith)
     also (λ e. let f = fields-at 2 r w e in omega arith)
     also (λ e. let f = fields-at 3 r w e in omega arith)
@@ -117,5 +118,6 @@ formed r w =
     also (λ e. let f = fields-at 8 r w e in omega arith)
     also (λ e. let f = fields-at 9 r w e in omega arith)
     also (λ e. let f = fields-at 10 r w e in omega arith)
+    also (λ e. let f = fields-at 11 r w e in omega arith)
     also tt)
     (r .kind) (some-kind r w) (omega (arith, last-kind r w)) refl

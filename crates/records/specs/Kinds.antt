@@ -4,7 +4,7 @@ use mathlib.Core.List.{List, [], _∷_}
 use mathlib.Core.Bool.{Bool, false, _&&_}
 use Rattle.days.specs.Days.{isDay}
 use Rattle.records.specs.declared.Record.{Record}
-use Rattle.records.specs.Records.{unused, aReference, aPremise, aRetailer, aRetailerOrNone, anOrderKind, aReply, orderDay}
+use Rattle.records.specs.Records.{unused, aReference, aPremise, aRetailer, aRetailerOrNone, aCounter, anOrderKind, aReply, orderDay}
 
 -- what the fields beside the kind may hold
 abbrev pub holds : (ℕ → Bool) → (ℕ → Bool) → (ℕ → Bool) → (ℕ → Bool) → (ℕ → Bool) → Record → Bool
@@ -37,7 +37,10 @@ replyHolds = holds aReply unused aReference aPremise unused
 abbrev pub dayMarkHolds : Record → Bool
 dayMarkHolds = holds unused isDay unused unused unused
 
--- the kinds from 0, which is none, to 10
+abbrev pub dateChangeHolds : Record → Bool
+dateChangeHolds = holds unused isDay aReference aPremise aCounter
+
+-- the kinds from 0, which is none, to 11
 abbrev pub holdsByKind : Record → List Bool
 holdsByKind r =
     false
@@ -51,4 +54,5 @@ holdsByKind r =
     ∷ cancelHolds r
     ∷ replyHolds r
     ∷ dayMarkHolds r
+    ∷ dateChangeHolds r
     ∷ []

@@ -12,8 +12,8 @@ use Rattle.records.specs.declared.Reading.{Reading}
 use Rattle.records.specs.declared.Reading.the-variants.{Malformed, Says}
 use Rattle.records.specs.Layout.{Field, GoesInto, recordLength, kindField, detailField, dayField, referenceField, premiseField}
 use Rattle.records.specs.Layout.{retailerField, zeroField, fieldOf}
-use Rattle.records.specs.Records.{kindNewOrder, kindDayMark, standardSwitch, massTransitionDrop, replyReject, lastRetailer}
-use Rattle.records.specs.Records.{aReference, aPremise, wellFormed, fieldsOf}
+use Rattle.records.specs.Records.{kindNewOrder, kindDayMark, kindDateChange, standardSwitch, massTransitionDrop, replyReject}
+use Rattle.records.specs.Records.{lastRetailer, aReference, aPremise, aCounter, wellFormed, fieldsOf}
 
 -- What a field holds, as facts; specs/Records.antt has the tests.
 abbrev pub Unused : ℕ → Type 0
@@ -22,7 +22,7 @@ Unused n = n ≡ 0
 abbrev pub ADay : ℕ → Type 0
 ADay n = n ≤ lastDay
 
--- a reference or a premise
+-- a reference, a premise or a counter
 abbrev pub Given : ℕ → Type 0
 Given n = 1 ≤ n
 
@@ -36,7 +36,7 @@ ARetailer = UpTo lastRetailer
 abbrev pub ARetailerOrNone : ℕ → Type 0
 ARetailerOrNone n = n ≤ lastRetailer
 
--- F has 32 bits and P 64, and neither is 0. The tests ask "not 0" and leave the bits to the fields: of what goes into its field they say
+-- F and a counter have 32 bits and P 64, and none is 0. The tests ask "not 0" and leave the bits to the fields: of what goes into its field they say
 -- document 01's whole range.
 abbrev pub SaysRange : (ℕ → Bool) → Field → ℕ → Type 0
 SaysRange test field last = (n : ℕ) → GoesInto field n → (test n ≡ true) ↔ UpTo last n
@@ -46,6 +46,9 @@ ReferenceRange = SaysRange aReference referenceField 4294967295
 
 abbrev pub PremiseRange : Type 0
 PremiseRange = SaysRange aPremise premiseField 18446744073709551615
+
+abbrev pub CounterRange : Type 0
+CounterRange = SaysRange aCounter retailerField 4294967295
 
 -- a new order's day: a day, and 0 for a standard switch
 pub record OrderDay (kind day : ℕ) : Type 0 where
@@ -60,7 +63,7 @@ pub record Fields (Detail Day Reference Premise Retailer : ℕ → Type 0) (r : 
   pub premise : Premise (r .premise)
   pub retailer : Retailer (r .retailer)
 
--- the facts for the kinds from 0, which is none, to 10
+-- the facts for the kinds from 0, which is none, to 11
 abbrev pub fieldsByKind : Record → List (Type 0)
 fieldsByKind r =
     ⊥
@@ -74,6 +77,7 @@ fieldsByKind r =
     ∷ Fields Unused Unused Given Given ARetailer r
     ∷ Fields (UpTo replyReject) Unused Given Given Unused r
     ∷ Fields Unused ADay Unused Unused Unused r
+    ∷ Fields Unused ADay Given Given Given r
     ∷ []
 
 -- What a well-formed record of a kind holds: at a numeral it computes to that kind's `Fields`.
@@ -82,11 +86,11 @@ FieldsOfKind kind r = getD (fieldsByKind r) kind ⊥
 
 -- what a well-formed record of any kind holds
 pub record Formed (r : Record) : Type 0 where
-  pub kind : UpTo kindDayMark (r .kind)
+  pub kind : UpTo kindDateChange (r .kind)
   pub day : r .day ≤ lastDay
-  pub retailer : r .retailer ≤ lastRetailer
-  pub premise : r .kind < kindDayMark → 1 ≤ r .premise
-  pub reference : kindNewOrder ≤ r .kind → r .kind < kindDayMark → 1 ≤ r .reference
+  pub retailer : r .kind < kindDateChange → r .retailer ≤ lastRetailer
+  pub premise : (r .kind ≡ kindDayMark → ⊥) → 1 ≤ r .premise
+  pub reference : kindNewOrder ≤ r .kind → (r .kind ≡ kindDayMark → ⊥) → 1 ≤ r .reference
 
 -- each of a record's numbers goes into its field
 pub record InWidth (r : Record) : Type 0 where

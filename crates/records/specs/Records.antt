@@ -1,4 +1,4 @@
--- Document 01, "Records": what the bytes of a record say, and row 3, which they decide alone.
+-- Document 01, "Records", and the record kinds of document 02: what the bytes of a record say, and row 3, which they decide alone.
 use Prim.Native.Nat.{ℕ}
 use mathlib.Core.List.{List}
 use mathlib.Core.Bool.{Bool, cond, not, _&&_, _||_}
@@ -11,7 +11,7 @@ use Rattle.records.specs.declared.Reading.the-variants.{Malformed, Says}
 use Rattle.records.specs.Layout.{recordLength, kindField, detailField, dayField, referenceField, premiseField, retailerField}
 use Rattle.records.specs.Layout.{zeroField, fieldOf}
 
--- The record kinds, 1 to 10.
+-- The record kinds, 1 to 10, and 11 of document 02, change 1.
 abbrev pub kindCreate : ℕ
 kindCreate = 1
 
@@ -41,6 +41,9 @@ kindReply = 9
 
 abbrev pub kindDayMark : ℕ
 kindDayMark = 10
+
+abbrev pub kindDateChange : ℕ
+kindDateChange = 11
 
 -- The order kinds K: 1 move in, 2 move out, 3 standard switch, 4 self-selected switch, 5 mass transition drop.
 abbrev pub moveIn : ℕ
@@ -85,6 +88,14 @@ aRetailer n = leb 1 n && leb n lastRetailer
 abbrev pub aRetailerOrNone : ℕ → Bool
 aRetailerOrNone n = leb n lastRetailer
 
+-- Document 02, change 1: "in bytes 16 to 19, an iteration counter (32 bits, not 0)". It is no retailer, and stands where other kinds have
+-- theirs.
+abbrev pub aCounter : ℕ → Bool
+aCounter n = not (eqb n 0)
+
+abbrev pub counterOf : Record → ℕ
+counterOf r = r .retailer
+
 abbrev pub anOrderKind : ℕ → Bool
 anOrderKind n = leb moveIn n && leb n massTransitionDrop
 
@@ -100,7 +111,8 @@ fits kind detail day reference premise retailer r =
 abbrev pub orderDay : ℕ → ℕ → Bool
 orderDay kind = cond (eqb kind standardSwitch) unused isDay
 
--- Kind, detail and fields in range, unused fields zero: the ten kinds with the fields that document 01 gives each in brackets.
+-- Kind, detail and fields in range, unused fields zero: the ten kinds with the fields that document 01 gives each in brackets. Document 02,
+-- change 1: "Record kind 11 carries day, F, P and, in bytes 16 to 19, an iteration counter".
 unfoldable pub wellFormed : Record → Bool
 wellFormed r =
     fits kindCreate unused isDay unused aPremise aRetailerOrNone r
@@ -113,6 +125,7 @@ wellFormed r =
     || fits kindCancel unused unused aReference aPremise aRetailer r
     || fits kindReply aReply unused aReference aPremise unused r
     || fits kindDayMark unused isDay unused unused unused r
+    || fits kindDateChange unused isDay aReference aPremise aCounter r
 
 -- the fields of some bytes
 abbrev pub fieldsOf : List ℕ → Record

@@ -1,5 +1,5 @@
 // The first byte of each field of a record. A notice has its code in the place of the kind, its order's kind in that of the detail and
-// its addressee in that of the retailer.
+// its addressee in that of the retailer; a date change its counter.
 pub const KIND: usize = 0;
 
 pub const DETAIL: usize = 1;

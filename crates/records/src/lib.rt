@@ -26,6 +26,7 @@ pub struct Record {
     pub day: u16,
     pub reference: u32,
     pub premise: u64,
+    // the retailer; of a date change its counter
     pub retailer: u32,
 }
 

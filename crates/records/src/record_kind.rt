@@ -18,3 +18,5 @@ pub const CANCEL: u8 = 8;
 pub const REPLY: u8 = 9;
 
 pub const DAY_MARK: u8 = 10;
+
+pub const DATE_CHANGE: u8 = 11;

@@ -15,12 +15,12 @@ use Rattle.days.specs.Pieces as days
 use Rattle.records.specs.declared.Record.{Record}
 use Rattle.records.specs.declared.Notice.{Notice}
 use Rattle.records.specs.Records.{kindCreate, kindRetire, kindNewOrder, kindScheduled, kindPermit, kindUnexecutable, kindRead, kindCancel}
-use Rattle.records.specs.Records.{kindReply, kindDayMark}
+use Rattle.records.specs.Records.{kindReply, kindDayMark, kindDateChange}
 use Rattle.premise.specs.declared.Order.{Order}
 use Rattle.premise.specs.declared.File.{File}
 use Rattle.premise.specs.Orders.{businessDays, calendarDays, places}
 use Rattle.premise.specs.Steps.{requestedDay, makeRoom, ordered, taken, onScheduled, onPermit, onUnexecutable, onRead, supplied}
-use Rattle.premise.specs.Steps.{onCancel, onReply, onOrder, changed}
+use Rattle.premise.specs.Steps.{onCancel, onReply, onOrder, onDateChange, onNamed, changed}
 use Rattle.premise.specs.Clock.{reviewed, permitAwaited, cancelAwaited, ticked}
 use Rattle.premise.specs.Evaluation.{contends, switchOfDay, givesWay, sameDaySwitch, isDisplaced, dropOnSwitchDay, isOvertaken}
 use Rattle.premise.specs.Evaluation.{permitOvertaken, isDue, lossNotice, evaluation}
@@ -64,6 +64,10 @@ cancel reference retailer = on kindCancel 0 0 reference retailer
 abbrev pub reply : ℕ → ℕ → Record
 reply detail reference = on kindReply detail 0 reference 0
 
+-- a date change of an order to a day, with its counter
+abbrev pub redate : ℕ → ℕ → ℕ → Record
+redate reference day counter = on kindDateChange 0 day reference counter
+
 abbrev pub mark : ℕ → Record
 mark day = record { kind = kindDayMark; detail = 0; day = day; reference = 0; premise = 0; retailer = 0 }
 
@@ -84,7 +88,7 @@ abbrev pub with10 : ℕ → List ℕ
 with10 kind = business 10 ++ (kind ∷ []) ++ business 5
 
 -- ---- an order in every field, a file, and T with a file or none
--- reference, K, Q, RD, SD, status, N, W, told
+-- reference, K, Q, RD, SD, status, N, W, told; no date change was taken
 abbrev pub stands : ℕ → ℕ → ℕ → ℕ → ℕ → ℕ → ℕ → ℕ → ℕ → Order
 stands reference kind submitter requested for status waited pending told =
     record {
@@ -97,6 +101,23 @@ stands reference kind submitter requested for status waited pending told =
       waited = businessDays waited;
       pending = calendarDays pending;
       told = told;
+      counter = 0;
+    }
+
+-- the same with a counter of date changes
+abbrev pub counted : ℕ → Order → Order
+counted counter o =
+    record {
+      reference = o .reference;
+      kind = o .kind;
+      submitter = o .submitter;
+      requested = o .requested;
+      scheduled = o .scheduled;
+      status = o .status;
+      waited = o .waited;
+      pending = o .pending;
+      told = o .told;
+      counter = counter;
     }
 
 -- a place that is not used
@@ -186,6 +207,7 @@ sameOrder o p =
     && eqb (o .waited .0) (p .waited .0)
     && eqb (o .pending .0) (p .pending .0)
     && eqb (o .told) (p .told)
+    && eqb (o .counter) (p .counter)
 
 abbrev sameOrders : List Order → List Order → Bool
 sameOrders [] [] = true
@@ -275,7 +297,7 @@ failing false name more = name ∷ more
 -- The names of the pieces that do not hold. (Where it is opened, so are the rules that a case computes with.)
 unfoldable pub failed : List Piece → List String
 unfolding kindOfDay isBusinessDay switchDate window.businessDays inWindow places requestedDay makeRoom ordered taken onScheduled onPermit
-    onUnexecutable onRead supplied onCancel onReply onOrder changed reviewed permitAwaited cancelAwaited ticked contends switchOfDay
+    onUnexecutable onRead supplied onCancel onReply onOrder onDateChange onNamed changed reviewed permitAwaited cancelAwaited ticked contends switchOfDay
     givesWay sameDaySwitch isDisplaced dropOnSwitchDay isOvertaken permitOvertaken isDue lossNotice evaluation refuses standsInWay
     notFirstIn orderKept isBlank fileKept fileBlank number premiseRows orderRows marked stepped step
 failed [] = []

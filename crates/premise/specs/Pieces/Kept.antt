@@ -5,22 +5,22 @@ use lib.ListN.{replicate}
 use Rattle.days.specs.Days.{noDay}
 use Rattle.records.specs.Notices.{tdsp}
 use Rattle.records.specs.Records.{kindCreate, kindRetire, kindNewOrder, kindScheduled, kindPermit, kindUnexecutable, kindRead, kindCancel}
-use Rattle.records.specs.Records.{kindReply, kindDayMark, moveIn, moveOut, standardSwitch, selfSelectedSwitch, massTransitionDrop}
+use Rattle.records.specs.Records.{kindReply, kindDayMark, kindDateChange, moveIn, moveOut, standardSwitch, selfSelectedSwitch, massTransitionDrop}
 use Rattle.records.specs.Records.{replyAccept, replyReject}
 use Rattle.premise.specs.declared.Order.{Order}
 use Rattle.premise.specs.declared.File.{File}
 use Rattle.premise.specs.declared.Answer.the-variants.{Accepted, ShortBuffer, NotWellKept, MalformedRecord, NoSuchPremise}
 use Rattle.premise.specs.declared.Answer.the-variants.{PremiseHeld, BookFull, OrderOpen, ReferenceHeld, DayOutOfRange, NoSwitchDate}
 use Rattle.premise.specs.declared.Answer.the-variants.{NotFirstIn, RetailerShareFull, StackFull, NoSuchOrder, StatusNotTaken}
-use Rattle.premise.specs.declared.Answer.the-variants.{NotNextDay}
+use Rattle.premise.specs.declared.Answer.the-variants.{CounterNotAbove, OrderInWindow, NotNextDay}
 use Rattle.premise.specs.Orders.{inReview, permitPending, scheduled, cancelPending, complete, cancelled, unexecutable, noRetailer}
 use Rattle.premise.specs.Orders.{blankFile}
 use Rattle.premise.specs.Passes.{codeOrder, codeMoveOut, codeScheduled, codeLosing, codeCancel, codePermit, codeUnexecutable}
-use Rattle.premise.specs.Passes.{codeReject}
+use Rattle.premise.specs.Passes.{codeReject, codeDateChange}
 use Rattle.premise.specs.Refusals.{number}
 use Rattle.premise.specs.OnePremise.{startState}
 use Rattle.premise.specs.Pieces.Forms.{Piece, piece, keeps, damaged, keepsFiles, damagedFiles, unusedFiles, usedFiles, numbered}
-use Rattle.premise.specs.Pieces.Forms.{leaves, plain, nothing, stands, zeros, file}
+use Rattle.premise.specs.Pieces.Forms.{leaves, plain, nothing, stands, counted, zeros, file}
 
 -- an order by its SD and status, else in range; with a W
 abbrev inStatus : ℕ → ℕ → Order
@@ -79,6 +79,9 @@ keptOrders =
     (keeps (stands 1 moveIn 201 3 12 scheduled 4 0 0 ∷ stands 1 moveIn 201 3 12 scheduled 4 0 1
     ∷ stands 1 moveOut 201 3 noDay inReview 4 0 1 ∷ []))
     ∷ piece "not well kept: told 2" (damaged (stands 1 moveIn 201 3 12 scheduled 4 0 2 ∷ []))
+    ∷ piece "well kept: any counter, whatever K and status"
+    (keeps (counted 1 (inStatus inReview noDay) ∷ counted 4294967295 (inStatus complete 12) ∷ counted 4294967295 (ofKind cancelled standardSwitch)
+    ∷ []))
     ∷ []
 
 -- a file with its fields one by one
@@ -112,6 +115,7 @@ almost =
     ∷ stands 0 0 0 0 0 0 1 0 0
     ∷ stands 0 0 0 0 0 0 0 1 0
     ∷ stands 0 0 0 0 0 0 0 0 1
+    ∷ counted 1 zeros
     ∷ []
 
 unfoldable pub keptFiles : List Piece
@@ -151,23 +155,24 @@ numbers =
     piece "statuses 1 to 7"
     (numbered (inReview ∷ permitPending ∷ scheduled ∷ cancelPending ∷ complete ∷ cancelled ∷ unexecutable ∷ [])
     (1 ∷ 2 ∷ 3 ∷ 4 ∷ 5 ∷ 6 ∷ 7 ∷ []))
-    ∷ piece "codes 1 to 8"
-    (numbered (codeOrder ∷ codeMoveOut ∷ codeScheduled ∷ codeLosing ∷ codeCancel ∷ codePermit ∷ codeUnexecutable ∷ codeReject ∷ [])
-    (1 ∷ 2 ∷ 3 ∷ 4 ∷ 5 ∷ 6 ∷ 7 ∷ 8 ∷ []))
-    ∷ piece "record kinds 1 to 10"
+    ∷ piece "codes 1 to 9"
+    (numbered (codeOrder ∷ codeMoveOut ∷ codeScheduled ∷ codeLosing ∷ codeCancel ∷ codePermit ∷ codeUnexecutable ∷ codeReject
+    ∷ codeDateChange ∷ [])
+    (1 ∷ 2 ∷ 3 ∷ 4 ∷ 5 ∷ 6 ∷ 7 ∷ 8 ∷ 9 ∷ []))
+    ∷ piece "record kinds 1 to 11"
     (numbered (kindCreate ∷ kindRetire ∷ kindNewOrder ∷ kindScheduled ∷ kindPermit ∷ kindUnexecutable ∷ kindRead ∷ kindCancel ∷ kindReply
-    ∷ kindDayMark ∷ [])
-    (1 ∷ 2 ∷ 3 ∷ 4 ∷ 5 ∷ 6 ∷ 7 ∷ 8 ∷ 9 ∷ 10 ∷ []))
+    ∷ kindDayMark ∷ kindDateChange ∷ [])
+    (1 ∷ 2 ∷ 3 ∷ 4 ∷ 5 ∷ 6 ∷ 7 ∷ 8 ∷ 9 ∷ 10 ∷ 11 ∷ []))
     ∷ piece "order kinds 1 to 5; accept 1, reject 2; the TDSP and no retailer 0; no day 4,096"
     (numbered (moveIn ∷ moveOut ∷ standardSwitch ∷ selfSelectedSwitch ∷ massTransitionDrop ∷ replyAccept ∷ replyReject ∷ tdsp ∷ noRetailer
     ∷ noDay ∷ [])
     (1 ∷ 2 ∷ 3 ∷ 4 ∷ 5 ∷ 1 ∷ 2 ∷ 0 ∷ 0 ∷ 4096 ∷ []))
-    ∷ piece "answers 0 to 15 and 26"
+    ∷ piece "answers 0 to 17 and 26"
     (numbered (number Accepted ∷ number ShortBuffer ∷ number NotWellKept ∷ number MalformedRecord ∷ number NoSuchPremise
     ∷ number PremiseHeld ∷ number BookFull ∷ number OrderOpen ∷ number ReferenceHeld ∷ number DayOutOfRange ∷ number NoSwitchDate
     ∷ number NotFirstIn ∷ number StackFull ∷ number NoSuchOrder ∷ number StatusNotTaken ∷ number NotNextDay
-    ∷ number RetailerShareFull ∷ [])
-    (0 ∷ 1 ∷ 2 ∷ 3 ∷ 4 ∷ 5 ∷ 6 ∷ 7 ∷ 8 ∷ 9 ∷ 10 ∷ 11 ∷ 12 ∷ 13 ∷ 14 ∷ 15 ∷ 26 ∷ []))
+    ∷ number CounterNotAbove ∷ number OrderInWindow ∷ number RetailerShareFull ∷ [])
+    (0 ∷ 1 ∷ 2 ∷ 3 ∷ 4 ∷ 5 ∷ 6 ∷ 7 ∷ 8 ∷ 9 ∷ 10 ∷ 11 ∷ 12 ∷ 13 ∷ 14 ∷ 15 ∷ 16 ∷ 17 ∷ 26 ∷ []))
     ∷ piece "they start with the start day and no file" (leaves plain (startState 10) [] (nothing 10))
     ∷ piece "they start at 4,095 if it is above" (numbered (startState 4095 .today ∷ startState 4096 .today ∷ []) (4095 ∷ 4095 ∷ []))
     ∷ []

@@ -11,7 +11,7 @@ use Rattle.premise.specs.Orders.{inReview, permitPending, scheduled, can
 use Rattle.premise.specs.FirstIn.{table}
 use Rattle.premise.specs.OnePremise.{State}
 use Rattle.premise.specs.Pieces.Forms.{Case, Piece, piece, answered, asked, numbered, nothing, state, stands, plain, business}
-use Rattle.premise.specs.Pieces.Forms.{create, retire, order, schedule, permit, unexecuted, read, cancel, reply, mark}
+use Rattle.premise.specs.Pieces.Forms.{create, retire, order, schedule, permit, unexecuted, read, cancel, reply, redate, mark}
 
 -- a file with one order of 201, by K, SD and status; its reference is 1
 abbrev holding : ℕ → ℕ → ℕ → State
@@ -60,42 +60,42 @@ firstIn =
     (11 ∷ 0 ∷ 0 ∷ 11 ∷ 0 ∷ []))
     ∷ []
 
--- records of the kinds 4 to 9 on the order 1 of 201
+-- records of the kinds 4 to 9 and 11 on the order 1 of 201
 abbrev onIt : List Record
-onIt = schedule 1 15 ∷ permit 1 ∷ unexecuted 1 ∷ read 1 15 ∷ cancel 1 201 ∷ reply replyAccept 1 ∷ reply replyReject 1 ∷ []
+onIt = schedule 1 15 ∷ permit 1 ∷ unexecuted 1 ∷ read 1 15 ∷ cancel 1 201 ∷ reply replyAccept 1 ∷ reply replyReject 1 ∷ redate 1 15 1 ∷ []
 
 abbrev takes : ℕ → ℕ → ℕ → List ℕ → Case
 takes kind for status answers = asked plain (holding kind for status) onIt answers
 
-abbrev inReviewTakes : List ℕ
-inReviewTakes = 0 ∷ 14 ∷ 0 ∷ 14 ∷ 0 ∷ 14 ∷ 14 ∷ []
+abbrev inReviewTakes : ℕ → List ℕ
+inReviewTakes redated = 0 ∷ 14 ∷ 0 ∷ 14 ∷ 0 ∷ 14 ∷ 14 ∷ redated ∷ []
 
-abbrev scheduledTakes : List ℕ
-scheduledTakes = 14 ∷ 14 ∷ 0 ∷ 0 ∷ 0 ∷ 14 ∷ 14 ∷ []
+abbrev scheduledTakes : ℕ → List ℕ
+scheduledTakes redated = 14 ∷ 14 ∷ 0 ∷ 0 ∷ 0 ∷ 14 ∷ 14 ∷ redated ∷ []
 
 abbrev cancelPendingTakes : List ℕ
-cancelPendingTakes = 0 ∷ 14 ∷ 0 ∷ 14 ∷ 14 ∷ 0 ∷ 0 ∷ []
+cancelPendingTakes = 0 ∷ 14 ∷ 0 ∷ 14 ∷ 14 ∷ 0 ∷ 0 ∷ 14 ∷ []
 
 abbrev closedTakes : List ℕ
-closedTakes = replicate 7 14
+closedTakes = replicate 8 14
 
 unfoldable pub statuses : List Piece
 statuses =
-    piece "14: a move in In Review" (takes moveIn noDay inReview (0 ∷ 0 ∷ 0 ∷ 14 ∷ 0 ∷ 14 ∷ 14 ∷ []))
-    ∷ piece "14: a move in Permit Pending" (takes moveIn noDay permitPending (0 ∷ 14 ∷ 0 ∷ 0 ∷ 0 ∷ 14 ∷ 14 ∷ []))
-    ∷ piece "14: a move in Scheduled" (takes moveIn 15 scheduled scheduledTakes)
+    piece "14: a move in In Review" (takes moveIn noDay inReview (0 ∷ 0 ∷ 0 ∷ 14 ∷ 0 ∷ 14 ∷ 14 ∷ 0 ∷ []))
+    ∷ piece "14: a move in Permit Pending" (takes moveIn noDay permitPending (0 ∷ 14 ∷ 0 ∷ 0 ∷ 0 ∷ 14 ∷ 14 ∷ 14 ∷ []))
+    ∷ piece "14: a move in Scheduled" (takes moveIn 15 scheduled (scheduledTakes 0))
     ∷ piece "14: a move in Cancel Pending" (takes moveIn noDay cancelPending cancelPendingTakes)
     ∷ piece "14: a move in Complete" (takes moveIn 15 complete closedTakes)
     ∷ piece "14: a move in Cancelled" (takes moveIn noDay cancelled closedTakes)
     ∷ piece "14: a move in Unexecutable" (takes moveIn noDay unexecutable closedTakes)
-    ∷ piece "14: a move out In Review" (takes moveOut noDay inReview inReviewTakes)
-    ∷ piece "14: a standard switch In Review" (takes standardSwitch noDay inReview inReviewTakes)
-    ∷ piece "14: a self-selected switch In Review" (takes selfSelectedSwitch noDay inReview inReviewTakes)
-    ∷ piece "14: a drop In Review" (takes massTransitionDrop noDay inReview inReviewTakes)
-    ∷ piece "14: a move out Scheduled" (takes moveOut 15 scheduled scheduledTakes)
-    ∷ piece "14: a standard switch Scheduled" (takes standardSwitch 15 scheduled scheduledTakes)
-    ∷ piece "14: a self-selected switch Scheduled" (takes selfSelectedSwitch 15 scheduled scheduledTakes)
-    ∷ piece "14: a drop Scheduled" (takes massTransitionDrop 15 scheduled scheduledTakes)
+    ∷ piece "14: a move out In Review" (takes moveOut noDay inReview (inReviewTakes 0))
+    ∷ piece "14: a standard switch In Review" (takes standardSwitch noDay inReview (inReviewTakes 14))
+    ∷ piece "14: a self-selected switch In Review" (takes selfSelectedSwitch noDay inReview (inReviewTakes 14))
+    ∷ piece "14: a drop In Review" (takes massTransitionDrop noDay inReview (inReviewTakes 14))
+    ∷ piece "14: a move out Scheduled" (takes moveOut 15 scheduled (scheduledTakes 0))
+    ∷ piece "14: a standard switch Scheduled" (takes standardSwitch 15 scheduled (scheduledTakes 14))
+    ∷ piece "14: a self-selected switch Scheduled" (takes selfSelectedSwitch 15 scheduled (scheduledTakes 14))
+    ∷ piece "14: a drop Scheduled" (takes massTransitionDrop 15 scheduled (scheduledTakes 14))
     ∷ piece "14: a move out Cancel Pending" (takes moveOut 15 cancelPending cancelPendingTakes)
     ∷ piece "14: a standard switch Cancel Pending" (takes standardSwitch 15 cancelPending cancelPendingTakes)
     ∷ piece "14: a self-selected switch Cancel Pending" (takes selfSelectedSwitch 15 cancelPending cancelPendingTakes)
@@ -114,9 +114,9 @@ retires status answer = asked plain (holding moveIn 15 status) (retire ∷ []) (
 
 unfoldable pub premises : List Piece
 premises =
-    piece "4: each of the kinds 2 to 9, and no other" (asked plain (nothing 10)
+    piece "4: each of the kinds 2 to 9 and 11, and no other" (asked plain (nothing 10)
     (create 0 101 ∷ retire ∷ order moveIn 12 1 201 ∷ onIt ++ (mark 11 ∷ []))
-    (0 ∷ replicate 9 4 ++ (0 ∷ [])))
+    (0 ∷ replicate 10 4 ++ (0 ∷ [])))
     ∷ piece "4 before 9, 10 and 15" (asked [] (nothing 4095)
     (order moveIn 12 1 201 ∷ order standardSwitch 0 1 201 ∷ mark 4095 ∷ []) (4 ∷ 4 ∷ 15 ∷ []))
     ∷ piece "5: a create of a premise with a file, and no other kind" (asked plain (holding moveIn noDay inReview)
@@ -173,10 +173,10 @@ stacks =
     (state 10 101 5 (stands 9 moveIn 201 3 4 complete 4 0 1 ∷ map (λ (reference : ℕ). stands reference moveOut 201 3 noDay inReview 4 0 1)
     (1 ∷ 2 ∷ 3 ∷ 4 ∷ 5 ∷ 6 ∷ 7 ∷ [])))
     (order moveOut 12 10 202 ∷ []) (0 ∷ []))
-    ∷ piece "13: another reference, on each of the kinds 4 to 9" (asked plain
+    ∷ piece "13: another reference, on each of the kinds 4 to 9 and 11" (asked plain
     (state 10 101 5 (stands 2 moveIn 201 3 noDay inReview 4 0 1 ∷ []))
-    onIt (replicate 7 13))
-    ∷ piece "13: without an order" (asked plain (state 10 101 5 []) onIt (replicate 7 13))
+    onIt (replicate 8 13))
+    ∷ piece "13: without an order" (asked plain (state 10 101 5 []) onIt (replicate 8 13))
     ∷ piece "13: a cancel of another retailer, and before 14" (asked plain (holding moveIn 15 complete) (cancel 1 202 ∷ cancel 1 201 ∷ [])
     (13 ∷ 14 ∷ []))
     ∷ piece "13: the other retailer's order is not taken" (asked plain

@@ -40,9 +40,7 @@ use Rattle.book.proofs.Marks.{marked-each, marked-rising}
 -- a record of another kind than 10 has a premise's number
 pub has-premise : (r : Record) → wellFormed r ≡ true → is kindDayMark r ≡ false → 0 < r .premise
 has-premise r w e =
-    let f = formed r w in
-    let n = eqb-false (r .kind) kindDayMark e in
-    f .premise (omega (arith, f .kind .within, n))
+    formed r w .premise (eqb-false (r .kind) kindDayMark e)
 
 -- of a file or none
 pub numbers : (premise : ℕ) (file : Option File) → Held (KeptFor premise) file → Numbered premise file

@@ -27,6 +27,7 @@ use Rattle.book.proofs.Kept.{count-is, stored, book-kept-means}
 use Rattle.book.proofs.Keeps.{step-kept-file, call-keeps}
 use Rattle.book.proofs.Acts.{acted, call-acts}
 use Rattle.book.proofs.Rows.{not-new}
+use Rattle.premise.proofs.KindsOf.{needs-no-mark}
 
 module _ (calendar : List ℕ) (b : Book) (bytes lent : List ℕ) (r : Record) (at : ℕ) (past g : File) (k : BookKept b)
     (room : noticeBytes ≤ length lent)
@@ -36,7 +37,7 @@ module _ (calendar : List ℕ) (b : Book) (bytes lent : List ℕ) (r : Record) (
   ruled = givenOn calendar (b .today) (some (getD (b .files) at past)) r
 
   not-mark : is kindDayMark r ≡ false
-  not-mark = ne-eqb (r .kind) kindDayMark (λ q. omega (arith, q, h .upto))
+  not-mark = needs-no-mark r (h .kind .needs)
 
   rising : Rising 0 (filesOf b)
   rising = rises-rising 0 (filesOf b) (k .rising)

@@ -11,7 +11,7 @@ use Rattle.days.specs.Days.{lastDay}
 use Rattle.records.specs.declared.Record.{Record}
 use Rattle.records.specs.declared.Reading.the-variants.{Malformed, Says}
 use Rattle.records.specs.Layout.{recordLength}
-use Rattle.records.specs.Records.{kindNewOrder, kindReply, kindDayMark, wellFormed, reading}
+use Rattle.records.specs.Records.{kindDayMark, wellFormed, reading}
 use Rattle.premise.specs.declared.File.{File}
 use Rattle.premise.specs.declared.Answer.the-variants.{ShortBuffer, NotWellKept, MalformedRecord, NoSuchPremise}
 use Rattle.premise.specs.Steps.{is}
@@ -19,6 +19,7 @@ use Rattle.premise.specs.Refusals.{number, needsPremise}
 use Rattle.premise.specs.OnePremise.{Given, givenOn}
 use Rattle.premise.specs.WellKept.{FileKept}
 use Rattle.premise.specs.Laws.{rowNumbers}
+use Rattle.premise.specs.Promises.{StaysHeld}
 use Rattle.premise_laws.specs.Laws.{KeptFor}
 use Rattle.book.specs.declared.Book.{Book}
 use Rattle.book.specs.Book.{mostFiles, filesOf, bookOf, freshBook, risesFrom, bookKept, fileFor}
@@ -69,11 +70,11 @@ abbrev pub CallFew : Type 0
 CallFew = (calendar : List ℕ) (b : Book) (bytes lent : List ℕ) → recordLength * length (call calendar b bytes lent .notices) ≤ length lent
 
 -- ---- the table of refusals
--- its rows' numbers, in its order: 1 to 15 of a record, with 26 between 11 and 12, and 1 to 3 of malformed bytes, of which row 3 holds
+-- its rows' numbers, in its order: 1 to 15 of a record, with 26 between 11 and 12 and 16 and 17 after 14, and 1 to 3 of malformed bytes, of which row 3 holds
 abbrev pub RowsOfRecord : Type 0
 RowsOfRecord =
     (calendar : List ℕ) (b : Book) (bytes lent : List ℕ) (r : Record) → reading bytes ≡ Says r
-    → rowNumbers (callRows calendar b bytes lent) ≡ 1 ∷ 2 ∷ 3 ∷ 4 ∷ 5 ∷ 6 ∷ 7 ∷ 8 ∷ 9 ∷ 10 ∷ 11 ∷ 26 ∷ 12 ∷ 13 ∷ 14 ∷ 15 ∷ []
+    → rowNumbers (callRows calendar b bytes lent) ≡ 1 ∷ 2 ∷ 3 ∷ 4 ∷ 5 ∷ 6 ∷ 7 ∷ 8 ∷ 9 ∷ 10 ∷ 11 ∷ 26 ∷ 12 ∷ 13 ∷ 14 ∷ 16 ∷ 17 ∷ 15 ∷ []
 
 abbrev pub RowsOfMalformed : Type 0
 RowsOfMalformed =
@@ -92,13 +93,12 @@ CallNotKept =
     → call calendar b bytes lent ≡ refusal NotWellKept b
 
 -- ---- a record on a premise that is held, by the place of its file
--- a record of kinds 3 to 9, and a place that holds its premise's file; `past` is what a read past the last place would give, of which none
--- comes
+-- a record that leaves its premise's file in the book, and a place that holds that file; `past` is what a read past the last place would
+-- give, of which none comes
 pub record OnHeld (b : Book) (at : ℕ) (past : File) (r : Record) : Type 0 where
   pub within : at < b .count
   pub own : getD (b .files) at past .premise ≡ r .premise
-  pub from : kindNewOrder ≤ r .kind
-  pub upto : r .kind ≤ kindReply
+  pub kind : StaysHeld r
 
 -- the book with another file at a place
 abbrev pub withFileAt : Book → ℕ → File → Book
@@ -129,7 +129,7 @@ CallMalformed =
     (calendar : List ℕ) (b : Book) (bytes lent : List ℕ) → bookKept b ≡ true → noticeBytes ≤ length lent → reading bytes ≡ Malformed
     → call calendar b bytes lent ≡ refusal MalformedRecord b
 
--- a record of kinds 2 to 9 of a premise that is not held gets 4
+-- a record that needs a premise, of one that is not held, gets 4
 abbrev pub CallNotHeld : Type 0
 CallNotHeld =
     (calendar : List ℕ) (b : Book) (bytes lent : List ℕ) (r : Record)

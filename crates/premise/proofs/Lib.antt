@@ -1,6 +1,7 @@
 pub mod Answers
 pub mod Blank
 pub mod KeptFiles
+pub mod KindsOf
 pub mod Pieces
 pub mod Places
 pub mod Table

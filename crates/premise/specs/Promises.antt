@@ -3,18 +3,21 @@ use Prim.Native.Nat.{ℕ, _+_, _*_, _≤_}
 use mathlib.Core.Path.{_≡_}
 use mathlib.Core.List.{List, _++_}
 use mathlib.Core.Option.{some}
+use mathlib.Core.Bool.{true, false}
 use lib.ListN.{length, take, drop}
 use Rattle.days.specs.Window.{windowWidth, LastInWindow}
 use Rattle.records.specs.declared.Record.{Record}
 use Rattle.records.specs.declared.Notice.{Notice}
 use Rattle.records.specs.Layout.{recordLength}
 use Rattle.records.specs.Notices.{encodeAll}
-use Rattle.records.specs.Records.{kindReply}
+use Rattle.records.specs.Records.{kindRetire}
 use Rattle.premise.specs.declared.File.{File}
 use Rattle.premise.specs.declared.OrderAfter.{OrderAfter}
 use Rattle.premise.specs.declared.FileAfter.{FileAfter}
 use Rattle.premise.specs.declared.PremiseAfter.{PremiseAfter}
 use Rattle.premise.specs.Passes.{Change, Effect}
+use Rattle.premise.specs.Steps.{is}
+use Rattle.premise.specs.Refusals.{needsPremise}
 use Rattle.premise.specs.OnePremise.{Given, givenOn}
 use Rattle.premise.specs.WellKept.{Tidy}
 
@@ -50,9 +53,12 @@ pub record Evaluable (calendar : List ℕ) (today last : ℕ) (f : File) (notice
   pub room : Room standing notices buffer
   pub window : LastInWindow calendar windowWidth today last
 
--- a record of the kinds from a number on, up to the cancel reply, on a file
-pub record OnFile (least : ℕ) (calendar : List ℕ) (today : ℕ) (f : File) (r : Record) (standing : ℕ) (buffer : List ℕ) : Type 0 where
+-- a record of a premise that is held, which leaves its file in the book: every kind that needs a premise but the retire
+pub record StaysHeld (r : Record) : Type 0 where
+  pub needs : needsPremise r ≡ true
+  pub stays : is kindRetire r ≡ false
+
+-- a record on a file
+pub record OnFile (calendar : List ℕ) (today : ℕ) (f : File) (r : Record) (standing : ℕ) (buffer : List ℕ) : Type 0 where
   pub tidy : Tidy f
-  pub from : least ≤ r .kind
-  pub upto : r .kind ≤ kindReply
   pub room : Room standing (givenOn calendar today (some f) r .notices) buffer

@@ -75,7 +75,7 @@ fn order_day_holds(kind: u8, day: u16) -> bool
 }
 
 // Dispatch on the record kind. A create uses the day, the premise, and a retailer or none; a retire the premise; a new order every field,
-// its detail the order kind; a day mark the day.
+// its detail the order kind; a day mark the day; a date change all but the detail, with a counter, which is not 0, in the retailer's place.
 pub fn well_formed(fields: Record) -> bool
     ensures { λ r. ⌜ r ≡ wellFormed fields ⌝ }
 {
@@ -110,6 +110,13 @@ pub fn well_formed(fields: Record) -> bool
                 & (fields.reference == 0)
                 & (fields.premise == 0)
                 & (fields.retailer == 0)
+        },
+        record_kind::DATE_CHANGE => {
+            (fields.detail == 0)
+                & (fields.day <= LAST_DAY)
+                & (fields.reference != 0)
+                & (fields.premise != 0)
+                & (fields.retailer != 0)
         },
         _ => false,
     }

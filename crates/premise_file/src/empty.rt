@@ -23,6 +23,7 @@ fn blank_order() -> Order
         waited: BusinessDays(0),
         pending: CalendarDays(0),
         told: 0,
+        counter: 0,
     }
 }
 

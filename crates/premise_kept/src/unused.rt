@@ -18,6 +18,7 @@ pub fn is_blank(o: Order) -> bool
         & (o.waited.0 == 0)
         & (o.pending.0 == 0)
         & (o.told == 0)
+        & (o.counter == 0)
 }
 
 // Whether an unused place of the book is zero in every field.

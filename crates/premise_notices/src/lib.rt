@@ -6,6 +6,7 @@ pub use cancelling::as_cancelled;
 pub use cancelling::cancel;
 pub use cancelling::send_cancel;
 pub use writer::CODE_CANCEL;
+pub use writer::CODE_DATE_CHANGE;
 pub use writer::CODE_LOSING;
 pub use writer::CODE_MOVE_OUT;
 pub use writer::CODE_ORDER;

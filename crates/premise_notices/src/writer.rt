@@ -23,7 +23,9 @@ pub const CODE_UNEXECUTABLE: u8 = 7;
 
 pub const CODE_REJECT: u8 = 8;
 
-// A notice on an order. Its day is the requested one while the order is new, and else the scheduled one.
+pub const CODE_DATE_CHANGE: u8 = 9;
+
+// A notice on an order. Its day is the requested one where the order is new or its date is changed, and else the scheduled one.
 pub fn notice_on(code: u8, premise: u64, addressee: u32, o: Order) -> Notice
     ensures { λ r. ⌜ r ≡ notice code premise addressee o ⌝ }
 {
@@ -41,7 +43,7 @@ pub fn notice_on(code: u8, premise: u64, addressee: u32, o: Order) -> Notice
 fn day_in(code: u8, o: Order) -> u16
     ensures { λ r. ⌜ r ≡ dayIn code o ⌝ }
 {
-    if code <= CODE_MOVE_OUT {
+    if (code <= CODE_MOVE_OUT) | (code == CODE_DATE_CHANGE) {
         return o.requested;
     }
     o.scheduled

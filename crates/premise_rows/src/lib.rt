@@ -11,3 +11,4 @@ pub use new_order_rows::new_order_answer;
 pub use numbers::number_of;
 pub use requested::new_order;
 pub use requested::requested_day;
+pub use requested::wait_begun;

@@ -24,6 +24,8 @@ pub fn number_of(answer: Answer) -> u8
         Answer::StackFull => 12,
         Answer::NoSuchOrder => 13,
         Answer::StatusNotTaken => 14,
+        Answer::CounterNotAbove => 16,
+        Answer::OrderInWindow => 17,
         Answer::NotNextDay => 15,
     }
 }

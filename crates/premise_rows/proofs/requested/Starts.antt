@@ -2,15 +2,15 @@
 use Prim.Native.Nat.{ℕ}
 use mathlib.Core.Path.{_≡_}
 use mathlib.Core.List.{List}
-use mathlib.Core.Bool.{cond}
-use Rattle.days.specs.Days.{noDay, isBusinessDay}
+use Rattle.days.specs.Days.{noDay}
 use Rattle.records.specs.declared.Record.{Record}
+use Rattle.premise.specs.declared.BusinessDays.{BusinessDays}
 use Rattle.premise.specs.Orders.{inReview, businessDays, calendarDays}
-use Rattle.premise.specs.Steps.{requestedDay, newOrder}
+use Rattle.premise.specs.Steps.{requestedDay, waitBegun, newOrder}
 
--- by its requested day and the count that its wait starts with
-pub started : (calendar : List ℕ) (today : ℕ) (r : Record) (requested : ℕ) → requested ≡ requestedDay calendar today r → (days : ℕ)
-    → days ≡ cond (isBusinessDay calendar today) 1 0
+-- by its requested day and the wait that begins
+pub started : (calendar : List ℕ) (today : ℕ) (r : Record) (requested : ℕ) → requested ≡ requestedDay calendar today r → (waited : BusinessDays)
+    → waited ≡ businessDays (waitBegun calendar today)
     → record {
       reference = r .reference;
       kind = r .detail;
@@ -18,12 +18,13 @@ pub started : (calendar : List ℕ) (today : ℕ) (r : Record) (requested : ℕ)
       requested = requested;
       scheduled = noDay;
       status = inReview;
-      waited = businessDays days;
+      waited = waited;
       pending = calendarDays 0;
       told = 0;
+      counter = 0;
     }
     ≡ newOrder calendar today r
-started calendar today r requested e days d =
+started calendar today r requested e waited w =
     λ i.
     record {
       reference = r .reference;
@@ -32,7 +33,8 @@ started calendar today r requested e days d =
       requested = e i;
       scheduled = noDay;
       status = inReview;
-      waited = businessDays (d i);
+      waited = w i;
       pending = calendarDays 0;
       told = 0;
+      counter = 0;
     }

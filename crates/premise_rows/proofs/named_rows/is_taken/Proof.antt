@@ -1,7 +1,8 @@
 -- `is_taken` meets its contract: the arm of the record's kind decides `taken`. Assumes nothing.
 use mathlib.Core.Path.{sym, _∙_}
 use borrow.Author.Needs.{needs}
-use Rattle.premise.proofs.Taken.{taken-scheduled, taken-permit, taken-unexecutable, taken-read, taken-cancel, taken-reply, taken-none}
+use Rattle.premise.proofs.Taken.{taken-scheduled, taken-permit, taken-unexecutable, taken-read, taken-cancel, taken-reply}
+use Rattle.premise.proofs.Taken.{taken-date-change, taken-none}
 use Rattle.premise_rows.proofs.named_rows.is_taken.Statement.{statement}
 use Rattle.premise_rows.proofs.named_rows.is_taken.Tie as tie
 
@@ -34,9 +35,16 @@ returns-6 c = sym (taken-reply (c .before .args .r) (c .before .args .o) (c .mat
 
 returns-7 : tie.Need-returns-7
 returns-7 c =
+    let m = c .before .before in
+    let a = m .before .args in
+    sym (taken-date-change (a .r) (a .o) (m .match .keys7))
+
+returns-8 : tie.Need-returns-8
+returns-8 c =
     let a = c .before .args in
-    sym (taken-none (a .r) (a .o) (c .match .rest .0 .0 .0 .0 .0 .1) (c .match .rest .0 .0 .0 .0 .1) (c .match .rest .0 .0 .0 .1)
-    (c .match .rest .0 .0 .1) (c .match .rest .0 .1) (c .match .rest .1))
+    let out = c .match .rest in
+    sym (taken-none (a .r) (a .o) (out .0 .0 .0 .0 .0 .0 .1) (out .0 .0 .0 .0 .0 .1) (out .0 .0 .0 .0 .1) (out .0 .0 .0 .1) (out .0 .0 .1)
+    (out .0 .1) (out .1))
 
 pub is-taken-spec : {M : Type 1} → statement M
 is-taken-spec =
@@ -49,4 +57,5 @@ is-taken-spec =
     returns-4
     returns-5
     returns-6
-    returns-7)
+    returns-7
+    returns-8)

@@ -73,10 +73,20 @@ returns-17 : tie.Need-returns-17
 unfolding number
 returns-17 c = sym (ap number (c .enum-told17 .given .1))
 
+returns-18 : tie.Need-returns-18
+unfolding number
+returns-18 c = sym (ap number (c .enum-told18 .given .1))
+
+returns-19 : tie.Need-returns-19
+unfolding number
+returns-19 c = sym (ap number (c .enum-told19 .given .1))
+
 pub number-of-spec : {M : Type 1} → statement M
 number-of-spec =
     tie.close
     (tie.spec
+    (λ c. search needs)
+    (λ c. search needs)
     (λ c. search needs)
     (λ c. search needs)
     (λ c. search needs)
@@ -110,4 +120,6 @@ number-of-spec =
     returns-14
     returns-15
     returns-16
-    returns-17)
+    returns-17
+    returns-18
+    returns-19)

@@ -1,6 +1,9 @@
-// What a record of kinds 4 to 9 does: to the order that it names, with its notices, and to who supplies the premise.
+// What a record that names an order (kinds 4 to 9 and 11) does: to that order, with its notices, and to who supplies the premise.
+mod changes;
+mod date_change;
 mod on_order;
 mod supplier;
+mod telling;
 
-pub use on_order::change_order;
+pub use changes::change_order;
 pub use supplier::supply;

@@ -3,7 +3,8 @@ ghost use mathlib.Core.Path.{_≡_};
 ghost use Rattle.premise.specs.Orders.{withStatus, withPending};
 ghost use Rattle.premise.specs.Steps.{onOrder};
 ghost use Rattle.premise.specs.Promises.{Room, DoneToOrder};
-ghost use Rattle.premise_effects.specs.ByKind.{telling, LeftBy, asRead, repliedStatus, codeOf, addresseeOf};
+ghost use Rattle.premise_effects.specs.ByKind.{LeftBy, asRead, repliedStatus, codeOf, addresseeOf};
+use crate::telling::tell;
 use premise::BusinessDays;
 use premise::CANCEL_PENDING;
 use premise::CANCELLED;
@@ -117,29 +118,9 @@ fn addressee_of(kind: u8, retailer: u32) -> u32
     }
 }
 
-// An order as a record leaves it, and one notice on it.
-fn tell(
-    code: u8,
-    premise: u64,
-    addressee: u32,
-    o: Order,
-    standing: usize,
-    buffer: &mut [u8],
-) -> OrderAfter
-    requires { ⌜ Room standing (telling code premise addressee o .notices) (now buffer) ⌝ }
-    ensures { λ s. ⌜ DoneToOrder (telling code premise addressee o) standing s (now (buffer .entry)) (now (buffer .exit)) ⌝ }
-{
-    let n = premise_notices::notice_on(code, premise, addressee, o);
-    let sent = premise_notices::send(standing, n, buffer);
-    OrderAfter {
-        order: o,
-        sent: sent,
-    }
-}
-
 // What a record of kinds 4 to 9 does to the order that it names: the order as the record leaves it, and its notice. An unexecutable order
 // is told to the premise's own retailer too, where that had been told of it.
-pub fn change_order(
+pub fn change_status(
     file: File,
     r: Record,
     o: Order,

@@ -9,12 +9,10 @@ use Rattle.records.specs.declared.Record.{Record}
 use Rattle.records.specs.Records.{kindScheduled, kindPermit, kindUnexecutable, kindRead, kindCancel, replyAccept}
 use Rattle.premise.specs.declared.Order.{Order}
 use Rattle.premise.specs.declared.File.{File}
-use Rattle.premise.specs.declared.OrderAfter.{OrderAfter}
 use Rattle.premise.specs.Passes.{Change, same, notice}
-use Rattle.premise.specs.Promises.{Room, DoneToOrder}
+use Rattle.premise.specs.Promises.{Room}
 use Rattle.premise.specs.Steps.{onScheduled, onPermit, onUnexecutable, onRead, onCancel, onReply, onOrder}
-use Rattle.premise_laws.proofs.Writes.{room-then, writes-then}
-use Rattle.premise_laws.proofs.OrderDone.{room-case, done-case}
+use Rattle.premise_laws.proofs.OrderDone.{room-case}
 use Rattle.premise_effects.specs.ByKind.{telling, tellingBoth, LeftBy, hearsToo, codeOf, addresseeOf}
 use Rattle.premise_effects.proofs.on_order.ByKind.{by-equal, on-reply}
 
@@ -100,23 +98,3 @@ module _ (f : File) (r : Record) (o : Order) where
       pub first-room : (standing : ℕ) (b : List ℕ) → Room standing (onOrder f r o .notices) b
           → Room standing (telling code (f .premise) addressee t .notices) b
       first-room standing b room = omega (arith, room-case (onOrder f r o) standing b (told f r o) by-kind room)
-
--- one notice on an order, and then another
-module _ (change : Change) (code premise first second : ℕ) (t : Order) (standing : ℕ) (b : List ℕ)
-    (e : change ≡ tellingBoth code premise first second t) (room : Room standing (change .notices) b)
-    (s : OrderAfter) (c : List ℕ) (w : DoneToOrder (telling code premise first t) standing s b c) where
-  both : Room standing (notice code premise first t ∷ notice code premise second t ∷ []) b
-  both = room-case change standing b (tellingBoth code premise first second t) e room
-
-  pub second-room : Room (s .sent) (telling code premise second t .notices) c
-  second-room = room-then standing b (notice code premise first t ∷ []) (notice code premise second t ∷ []) both c (s .sent) (w .wrote)
-
-  pub done-both : (r : OrderAfter) (d : List ℕ) → DoneToOrder (telling code premise second t) (s .sent) r c d
-      → DoneToOrder change standing r b d
-  done-both r d v =
-      done-case change standing b (tellingBoth code premise first second t) e r d
-      (record {
-        order = v .order;
-        wrote = writes-then standing b (notice code premise first t ∷ []) (notice code premise second t ∷ []) both c (s .sent) (w .wrote) d
-            (r .sent) (v .wrote);
-      })

@@ -1,10 +1,11 @@
--- `change_order` meets its contract: a read gives no notice, another record one, and a second where the premise's retailer
+-- `change_status` meets its contract: a read gives no notice, another record one, and a second where the premise's retailer
 -- hears of it too. Assumes nothing.
 use borrow.Author.Needs.{needs}
 use Rattle.premise_laws.proofs.OrderDone.{done-case, done-none}
-use Rattle.premise_effects.proofs.on_order.Notices.{on-read, told-once, told-twice, first-room, second-room, done-both}
-use Rattle.premise_effects.proofs.on_order.change_order.Statement.{statement}
-use Rattle.premise_effects.proofs.on_order.change_order.Tie as tie
+use Rattle.premise_effects.proofs.telling.Both.{second-room, done-both}
+use Rattle.premise_effects.proofs.on_order.Notices.{on-read, told-once, told-twice, first-room}
+use Rattle.premise_effects.proofs.on_order.change_status.Statement.{statement}
+use Rattle.premise_effects.proofs.on_order.change_status.Tie as tie
 
 left-requires : tie.Need-left-requires
 left-requires c κs = search needs
@@ -81,8 +82,8 @@ returns-3 c =
     done-both _ _ _ _ _ (l .left .result) (a .standing) (a .buffer .now) twice (s .pre) (w .tell .result) _ (w .tell .ensures)
     (v .tell2 .result) _ (v .tell2 .ensures)
 
-pub change-order-spec : {M : Type 1} → statement M
-change-order-spec =
+pub change-status-spec : {M : Type 1} → statement M
+change-status-spec =
     tie.close
     (tie.spec
     left-requires

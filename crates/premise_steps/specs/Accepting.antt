@@ -6,6 +6,7 @@ use mathlib.Core.Bool.{false}
 use lib.Dec.{eqb}
 use lib.ListN.{getD}
 use Rattle.lists.specs.Search.{countOf}
+use Rattle.days.specs.Window.{windowWidth, LastInWindow}
 use Rattle.records.specs.declared.Record.{Record}
 use Rattle.premise.specs.declared.File.{File}
 use Rattle.premise.specs.Orders.{mostOrders, isOpen, blank, held}
@@ -15,11 +16,12 @@ use Rattle.premise.specs.Evaluation.{evaluated}
 use Rattle.premise.specs.WellKept.{Tidy}
 use Rattle.premise.specs.Promises.{Room}
 
--- a record of kinds 4 to 9, on the order at a place
-pub record AtPlace (calendar : List ℕ) (today : ℕ) (f : File) (r : Record) (i standing : ℕ) (buffer : List ℕ) : Type 0 where
+-- a record that names an order, on the order at a place, with the last day in window
+pub record AtPlace (calendar : List ℕ) (today last : ℕ) (f : File) (r : Record) (i standing : ℕ) (buffer : List ℕ) : Type 0 where
   pub tidy : Tidy f
   pub within : i < f .count
-  pub room : Room standing (followed (changed f r i (getD (held f) i blank)) (evaluated calendar today) .notices) buffer
+  pub room : Room standing (followed (changed calendar today f r i (getD (held f) i blank)) (evaluated calendar today) .notices) buffer
+  pub window : LastInWindow calendar windowWidth today last
 
 -- a new order, which finds a place on the stack and whose requested day is known
 pub record WithPlace (calendar : List ℕ) (today : ℕ) (f : File) (r : Record) (requested standing : ℕ) (buffer : List ℕ) : Type 0 where

@@ -1,11 +1,12 @@
-// A record of kinds 4 to 9 on a file: which row refuses it, what it does to the order that it names, and the evaluation that ends it.
+// A record that names an order (kinds 4 to 9 and 11) on a file: which row refuses it, what it does to the order that it names, and the evaluation that ends it.
 ghost use mathlib.Core.Path.{_≡_};
 ghost use mathlib.Core.Option.{some};
+ghost use mathlib.Core.Bool.{true};
 ghost use lib.ListN.{getD};
 ghost use Rattle.lists.specs.declared.Found.the-variants.{At};
-ghost use Rattle.records.specs.Records.{kindScheduled};
 ghost use Rattle.premise.specs.Orders.{blank, held};
 ghost use Rattle.premise.specs.Steps.{named, changed};
+ghost use Rattle.premise.specs.Refusals.{namesOrder};
 ghost use Rattle.premise.specs.OnePremise.{followed, givenOn};
 ghost use Rattle.premise.specs.Evaluation.{evaluated};
 ghost use Rattle.premise.specs.Promises.{DoneToFile, Answered, OnFile};
@@ -19,30 +20,31 @@ use premise::FileAfter;
 use premise::PremiseAfter;
 use records::Record;
 
-// An accepted record of kinds 4 to 9 on the order at a place: the order changes, and the file is evaluated.
+// An accepted record that names the order at a place: the order changes, and the file is evaluated.
 fn accept_named(
     calendar: &[u8],
     today: u16,
+    last: u16,
     file: File,
     r: Record,
     i: usize,
     standing: usize,
     buffer: &mut [u8],
 ) -> FileAfter
-    requires { ⌜ AtPlace (now calendar) today file r i standing (now buffer) ⌝ }
-    ensures { λ p. ⌜ DoneToFile (followed (changed file r i (getD (held file) i blank)) (evaluated (now (calendar .entry)) today))
+    requires { ⌜ AtPlace (now calendar) today last file r i standing (now buffer) ⌝ }
+    ensures { λ p. ⌜ DoneToFile
+        (followed (changed (now (calendar .entry)) today file r i (getD (held file) i blank)) (evaluated (now (calendar .entry)) today))
         standing p (now (buffer .entry)) (now (buffer .exit)) ⌝ }
 {
-    let last = days::last_in_window(calendar, days::WINDOW_WIDTH, today);
     let o = file.orders[i];
-    let s = premise_effects::change_order(file, r, o, standing, buffer);
+    let s = premise_effects::change_order(calendar, today, file, r, o, standing, buffer);
     let t = s.order;
     let f = premise_effects::supply(file, r, o);
     let g = premise_file::with_order(f, i, t);
     premise_evaluation::evaluate(calendar, today, last, g, s.sent, buffer)
 }
 
-// Kinds 4 to 9 on the order at a place of a file: rows 13 and 14, then acceptance.
+// A record that names the order at a place of a file: rows 13, 14, 16 and 17, then acceptance.
 fn on_order(
     calendar: &[u8],
     today: u16,
@@ -52,21 +54,23 @@ fn on_order(
     standing: usize,
     buffer: &mut [u8],
 ) -> PremiseAfter
-    requires { ⌜ OnFile kindScheduled (now calendar) today file r standing (now buffer) ⌝ }
+    requires { ⌜ OnFile (now calendar) today file r standing (now buffer) ⌝ }
+    requires { ⌜ namesOrder r ≡ true ⌝ }
     requires { ⌜ named r (held file) ≡ At i ⌝ }
     ensures { λ p. ⌜ Answered (givenOn (now (calendar .entry)) today (some file) r)
         standing p (now (buffer .entry)) (now (buffer .exit)) ⌝ }
 {
-    let answer = premise_rows::named_answer(file, r, i);
+    let last = days::last_in_window(calendar, days::WINDOW_WIDTH, today);
+    let answer = premise_rows::named_answer(last, file, r, i);
     if is_refusal(answer) {
         return reply(answer, file, standing);
     }
-    let p = accept_named(calendar, today, file, r, i, standing, buffer);
+    let p = accept_named(calendar, today, last, file, r, i, standing, buffer);
     let g = p.file;
     reply(Answer::Accepted, g, p.sent)
 }
 
-// Kinds 4 to 9 on a file: row 13 where no order has the reference, else the order that has it.
+// A record that names an order, on a file: row 13 where no order has the reference, else the order that has it.
 pub fn on_named(
     calendar: &[u8],
     today: u16,
@@ -75,7 +79,8 @@ pub fn on_named(
     standing: usize,
     buffer: &mut [u8],
 ) -> PremiseAfter
-    requires { ⌜ OnFile kindScheduled (now calendar) today file r standing (now buffer) ⌝ }
+    requires { ⌜ OnFile (now calendar) today file r standing (now buffer) ⌝ }
+    requires { ⌜ namesOrder r ≡ true ⌝ }
     ensures { λ p. ⌜ Answered (givenOn (now (calendar .entry)) today (some file) r)
         standing p (now (buffer .entry)) (now (buffer .exit)) ⌝ }
 {

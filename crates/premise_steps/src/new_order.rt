@@ -58,7 +58,7 @@ pub fn on_new_order(
     standing: usize,
     buffer: &mut [u8],
 ) -> PremiseAfter
-    requires { ⌜ OnFile kindNewOrder (now calendar) today file r standing (now buffer) ⌝ }
+    requires { ⌜ OnFile (now calendar) today file r standing (now buffer) ⌝ }
     requires { ⌜ r .kind ≡ kindNewOrder ⌝ }
     ensures { λ p. ⌜ Answered (givenOn (now (calendar .entry)) today (some file) r)
         standing p (now (buffer .entry)) (now (buffer .exit)) ⌝ }

@@ -12,7 +12,7 @@ use Rattle.premise.specs.declared.Order.{Order}
 use Rattle.premise.specs.declared.File.{File}
 use Rattle.premise.specs.declared.OrderAfter.{OrderAfter}
 use Rattle.premise.specs.Orders.{scheduled, hasStatus, hasKind, noRetailer, blank, held, withOrders, withSupply}
-use Rattle.premise.specs.Steps.{is, onOrder, supplied, changed}
+use Rattle.premise.specs.Steps.{is, onNamed, supplied, changed}
 use Rattle.premise.specs.WellKept.{Tidy}
 use Rattle.premise.specs.Promises.{Room, DoneToOrder, DoneToFile}
 use Rattle.premise_laws.proofs.FileOrders.{tidy-supply, tidy-set}
@@ -38,19 +38,19 @@ pub changed-tidy : (h : File) → Tidy h → (i : ℕ) (t : Order) (g : File) �
 changed-tidy h tidy i t g e = subst⁻¹ Tidy e (tidy-set h tidy i t)
 
 -- the file with it, and its notices; s is what the code made of the order, h the file with its supply
-module _ (f : File) (r : Record) (i : ℕ) {o : Order} (e : o ≡ getD (held f) i blank) where
-  pub changed-room : (standing : ℕ) (b : List ℕ) → Room standing (changed f r i (getD (held f) i blank) .notices) b
-      → Room standing (onOrder f r o .notices) b
+module _ (calendar : List ℕ) (today : ℕ) (f : File) (r : Record) (i : ℕ) {o : Order} (e : o ≡ getD (held f) i blank) where
+  pub changed-room : (standing : ℕ) (b : List ℕ) → Room standing (changed calendar today f r i (getD (held f) i blank) .notices) b
+      → Room standing (onNamed calendar today f r o .notices) b
   unfolding changed
-  changed-room standing b room = subst⁻¹ (λ (x : Order). Room standing (onOrder f r x .notices) b) e room
+  changed-room standing b room = subst⁻¹ (λ (x : Order). Room standing (onNamed calendar today f r x .notices) b) e room
 
-  pub changed-done : {standing : ℕ} {s : OrderAfter} {b c : List ℕ} → DoneToOrder (onOrder f r o) standing s b c → {h : File}
+  pub changed-done : {standing : ℕ} {s : OrderAfter} {b c : List ℕ} → DoneToOrder (onNamed calendar today f r o) standing s b c → {h : File}
       → h ≡ supplied f r o
       → {g : File} → g ≡ withOrders h (set (held h) i (s .order))
-      → DoneToFile (changed f r i (getD (held f) i blank)) standing (record { file = g; sent = s .sent }) b c
+      → DoneToFile (changed calendar today f r i (getD (held f) i blank)) standing (record { file = g; sent = s .sent }) b c
   unfolding changed
   changed-done {standing} {s} {b} {c} done k {g} q =
-      subst (λ (x : Order). DoneToFile (changed f r i x) standing (record { file = g; sent = s .sent }) b c) e
+      subst (λ (x : Order). DoneToFile (changed calendar today f r i x) standing (record { file = g; sent = s .sent }) b c) e
       (record {
         file =
             q ∙ ap (λ (x : File). withOrders x (set (held x) i (s .order))) k

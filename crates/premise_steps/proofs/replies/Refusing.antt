@@ -8,14 +8,15 @@ use types.Run.{OneOf, miss}
 use Rattle.premise.specs.declared.Answer.{Answer}
 use Rattle.premise.specs.declared.Answer.the-variants.{Accepted, ShortBuffer, NotWellKept, MalformedRecord, NoSuchPremise, PremiseHeld}
 use Rattle.premise.specs.declared.Answer.the-variants.{BookFull, OrderOpen, ReferenceHeld, DayOutOfRange, NoSwitchDate, NotFirstIn}
-use Rattle.premise.specs.declared.Answer.the-variants.{RetailerShareFull, StackFull, NoSuchOrder, StatusNotTaken, NotNextDay}
+use Rattle.premise.specs.declared.Answer.the-variants.{RetailerShareFull, StackFull, NoSuchOrder, StatusNotTaken}
+use Rattle.premise.specs.declared.Answer.the-variants.{CounterNotAbove, OrderInWindow, NotNextDay}
 use Rattle.premise.specs.Refusals.{number}
 use Rattle.premise.proofs.Answer.{the-type}
 use Rattle.premise_steps.specs.Answering.{isRefusal}
 
 -- the variants' places after the first
 abbrev pub others : List ℕ
-others = 1 ∷ 2 ∷ 3 ∷ 4 ∷ 5 ∷ 6 ∷ 7 ∷ 8 ∷ 9 ∷ 10 ∷ 11 ∷ 12 ∷ 13 ∷ 14 ∷ 15 ∷ 16 ∷ []
+others = 1 ∷ 2 ∷ 3 ∷ 4 ∷ 5 ∷ 6 ∷ 7 ∷ 8 ∷ 9 ∷ 10 ∷ 11 ∷ 12 ∷ 13 ∷ 14 ∷ 15 ∷ 16 ∷ 17 ∷ 18 ∷ []
 
 pub refuses : (answer : Answer) → OneOf others (tagOf the-type answer) → true ≡ isRefusal answer
 unfolding number
@@ -35,6 +36,8 @@ refuses RetailerShareFull h = refl
 refuses StackFull h = refl
 refuses NoSuchOrder h = refl
 refuses StatusNotTaken h = refl
+refuses CounterNotAbove h = refl
+refuses OrderInWindow h = refl
 refuses NotNextDay h = refl
 
 pub accepts : (answer : Answer) → answer ≡ Accepted → false ≡ isRefusal answer

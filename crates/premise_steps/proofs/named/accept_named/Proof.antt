@@ -11,9 +11,6 @@ use Rattle.premise_steps.proofs.named.Changed.{supplied-ready, changed-
 use Rattle.premise_steps.proofs.named.accept_named.Statement.{statement}
 use Rattle.premise_steps.proofs.named.accept_named.Tie as tie
 
-last-in-window-requires : tie.Need-last-in-window-requires
-last-in-window-requires c κs = search needs
-
 mul-o : tie.Need-mul-o
 mul-o c = search needs
 
@@ -22,11 +19,11 @@ element-copy-out-o c = search needs
 
 change-order-requires : tie.Need-change-order-requires
 change-order-requires c κs =
-    let s = c .before .before .before .before .before in
+    let s = c .before .before .before .before in
     let a = s .args in
-    let f = a .t3 in
-    changed-room f (a .r) (a .i) (at-held f (a .i) (s .pre .within)) (a .standing) (a .buffer .now)
-    (then-first (changed f (a .r) (a .i) (getD (held f) (a .i) blank)) (evaluated (a .calendar .now) (a .today)) (a .standing)
+    let f = a .t4 in
+    changed-room (a .calendar .now) (a .today) f (a .r) (a .i) (at-held f (a .i) (s .pre .within)) (a .standing) (a .buffer .now)
+    (then-first (changed (a .calendar .now) (a .today) f (a .r) (a .i) (getD (held f) (a .i) blank)) (evaluated (a .calendar .now) (a .today)) (a .standing)
     (a .buffer .now) (s .pre .room))
 
 supply-requires : tie.Need-supply-requires
@@ -34,9 +31,9 @@ supply-requires c κs = search needs
 
 with-order-requires : tie.Need-with-order-requires
 with-order-requires c κs =
-    let s = c .before .before .before .before .before .before .before .before .before .before in
+    let s = c .before .before .before .before .before .before .before .before .before in
     let a = s .args in
-    supplied-ready (a .t3) (a .r) (getD (a .t3 .orders) (a .i) blank) (s .pre .tidy) (a .i) (s .pre .within) (c .supply .result)
+    supplied-ready (a .t4) (a .r) (getD (a .t4 .orders) (a .i) blank) (s .pre .tidy) (a .i) (s .pre .within) (c .supply .result)
     (c .supply .ensures)
 
 evaluate-requires : tie.Need-evaluate-requires
@@ -44,10 +41,10 @@ evaluate-requires c κs =
     let g = c .before in
     let h = g .before in
     let q = h .before .before .before .before in
-    let s = q .before .before .before .before .before .before in
+    let s = q .before .before .before .before .before in
     let a = s .args in
-    let f = a .t3 in
-    let d = changed-done f (a .r) (a .i) (at-held f (a .i) (s .pre .within)) (q .change-order .ensures) (h .supply .ensures)
+    let f = a .t4 in
+    let d = changed-done (a .calendar .now) (a .today) f (a .r) (a .i) (at-held f (a .i) (s .pre .within)) (q .change-order .ensures) (h .supply .ensures)
     (g .with-order .ensures) in
     let ready = supplied-ready f (a .r) (getD (f .orders) (a .i) blank) (s .pre .tidy) (a .i) (s .pre .within) (h .supply .result)
     (h .supply .ensures) in
@@ -55,7 +52,7 @@ evaluate-requires c κs =
       tidy = changed-tidy (h .supply .result) (ready .0) (a .i) (q .change-order .result .order) (g .with-order .result)
           (g .with-order .ensures);
       room = then-room (evaluated (a .calendar .now) (a .today)) d (s .pre .room);
-      window = q .before .before .before .last-in-window .ensures;
+      window = s .pre .window;
     }
 
 same-length : tie.Need-same-length
@@ -67,10 +64,10 @@ returns c =
     let g = v .before .before in
     let h = g .before in
     let q = h .before .before .before .before in
-    let s = q .before .before .before .before .before .before in
+    let s = q .before .before .before .before .before in
     let a = s .args in
-    let f = a .t3 in
-    let d = changed-done f (a .r) (a .i) (at-held f (a .i) (s .pre .within)) (q .change-order .ensures) (h .supply .ensures)
+    let f = a .t4 in
+    let d = changed-done (a .calendar .now) (a .today) f (a .r) (a .i) (at-held f (a .i) (s .pre .within)) (q .change-order .ensures) (h .supply .ensures)
     (g .with-order .ensures) in
     then-done (evaluated (a .calendar .now) (a .today)) d (s .pre .room) (v .evaluate .ensures)
 
@@ -78,7 +75,6 @@ pub accept-named-spec : {M : Type 1} → statement M
 accept-named-spec =
     tie.close
     (tie.spec
-    last-in-window-requires
     mul-o
     element-copy-out-o
     change-order-requires

@@ -24,7 +24,7 @@ on-order-requires c κs =
     let p = c .before .before in
     let w = p .before .before in
     let s = w .before .before .before in
-    (s .pre, sym (w .find .ensures) ∙ p .found .given .1)
+    (s .pre .0, (s .pre .1, sym (w .find .ensures) ∙ p .found .given .1))
 
 returns : tie.Need-returns
 returns c =
@@ -33,7 +33,7 @@ returns c =
     let s = w .before .before .before in
     let a = s .args in
     answered-quiet _ (a .standing) (a .buffer .now) NoSuchOrder (a .today) (a .file) (c .reply .result)
-    (named-missing (a .calendar .now) (a .today) (a .file) (a .r) (s .pre .from) (s .pre .upto)
+    (named-missing (a .calendar .now) (a .today) (a .file) (a .r) (s .pre .1)
     (sym (w .find .ensures) ∙ n .enum-told .given .1))
     (c .reply .ensures)
 

@@ -10,11 +10,14 @@ use Rattle.premise_steps.proofs.named.ByAnswer.{named-refused, named-do
 use Rattle.premise_steps.proofs.named.on_order.Statement.{statement}
 use Rattle.premise_steps.proofs.named.on_order.Tie as tie
 
+last-in-window-requires : tie.Need-last-in-window-requires
+last-in-window-requires c κs = search needs
+
 named-answer-requires : tie.Need-named-answer-requires
 named-answer-requires c κs =
-    let s = c .before .before in
+    let s = c .before .before .before in
     let a = s .args in
-    (s .pre .0 .tidy, place-held (a .file) (s .pre .0 .tidy) (a .i) (λ (o : Order). eqb (o .reference) (a .r .reference)) (s .pre .1))
+    (s .pre .0 .tidy, place-held (a .file) (s .pre .0 .tidy) (a .i) (λ (o : Order). eqb (o .reference) (a .r .reference)) (s .pre .1 .1))
 
 is-refusal-requires : tie.Need-is-refusal-requires
 is-refusal-requires c κs = search needs
@@ -27,11 +30,12 @@ returns c =
     let k = c .before in
     let h = k .before in
     let v = h .before in
-    let s = v .before .before .before in
+    let l = v .before in
+    let s = l .before .before .before in
     let a = s .args in
     answered-quiet _ (a .standing) (a .buffer .now) (v .named-answer .result) (a .today) (a .file) (c .reply .result)
-    (named-refused (a .calendar .now) (a .today) (a .file) (a .r) (s .pre .0 .from) (s .pre .0 .upto) (a .i) (s .pre .1)
-    (v .named-answer .result)
+    (named-refused (a .calendar .now) (a .today) (a .file) (a .r) (s .pre .1 .0) (a .i) (s .pre .1 .1) (l .last-in-window .result)
+    (l .last-in-window .ensures) (v .named-answer .result)
     (v .named-answer .ensures) (sym (h .is-refusal .ensures) ∙ k .if1 .taken))
     (c .reply .ensures)
 
@@ -40,16 +44,18 @@ accept-named-requires c κs =
     let k = c .before in
     let h = k .before in
     let v = h .before in
-    let s = v .before .before .before in
+    let l = v .before in
+    let s = l .before .before .before in
     let a = s .args in
     record {
       tidy = s .pre .0 .tidy;
-      within = place-held (a .file) (s .pre .0 .tidy) (a .i) (λ (o : Order). eqb (o .reference) (a .r .reference)) (s .pre .1);
+      within = place-held (a .file) (s .pre .0 .tidy) (a .i) (λ (o : Order). eqb (o .reference) (a .r .reference)) (s .pre .1 .1);
       room = room-leaving _ (a .standing) (a .buffer .now) (a .today) _
-          (named-done (a .calendar .now) (a .today) (a .file) (a .r) (s .pre .0 .from) (s .pre .0 .upto) (a .i) (s .pre .1)
-          (v .named-answer .result)
+          (named-done (a .calendar .now) (a .today) (a .file) (a .r) (s .pre .1 .0) (a .i) (s .pre .1 .1) (l .last-in-window .result)
+          (l .last-in-window .ensures) (v .named-answer .result)
           (v .named-answer .ensures) (sym (h .is-refusal .ensures) ∙ k .if1 .left))
           (s .pre .0 .room);
+      window = l .last-in-window .ensures;
     }
 
 reply-requires-2 : tie.Need-reply-requires-2
@@ -64,11 +70,12 @@ returns-2 c =
     let k = y .before .before in
     let h = k .before in
     let v = h .before in
-    let s = v .before .before .before in
+    let l = v .before in
+    let s = l .before .before .before in
     let a = s .args in
     answered-done _ (a .standing) (a .buffer .now) (a .today) _
-    (named-done (a .calendar .now) (a .today) (a .file) (a .r) (s .pre .0 .from) (s .pre .0 .upto) (a .i) (s .pre .1)
-    (v .named-answer .result)
+    (named-done (a .calendar .now) (a .today) (a .file) (a .r) (s .pre .1 .0) (a .i) (s .pre .1 .1) (l .last-in-window .result)
+    (l .last-in-window .ensures) (v .named-answer .result)
     (v .named-answer .ensures) (sym (h .is-refusal .ensures) ∙ k .if1 .left))
     (y .accept-named .result) _ (c .reply2 .result) (y .accept-named .ensures) (c .reply2 .ensures)
 
@@ -76,6 +83,7 @@ pub on-order-spec : {M : Type 1} → statement M
 on-order-spec =
     tie.close
     (tie.spec
+    last-in-window-requires
     named-answer-requires
     is-refusal-requires
     reply-requires

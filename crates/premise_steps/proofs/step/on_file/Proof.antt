@@ -1,22 +1,27 @@
 -- `on_file` meets its contract: each arm does what its kind asks. Assumes nothing.
-use mathlib.Core.Path.{_≡_}
-use mathlib.Core.Logic.{⊎-elim}
+use mathlib.Core.Logic.{inl, inr, ⊎-elim}
 use native.Mathlib.Omega.{arith}
 use borrow.Author.Needs.{needs}
-use Rattle.records.specs.Records.{kindNewOrder}
+use Rattle.records.specs.Records.{kindScheduled}
+use Rattle.premise.proofs.KindsOf.{among, not-among, else-new-order}
 use Rattle.premise_steps.proofs.step.on_file.Statement.{statement}
 use Rattle.premise_steps.proofs.step.on_file.Tie as tie
 
 on-named-requires : tie.Need-on-named-requires
-on-named-requires c κs = search needs
+on-named-requires c κs =
+    let m = c .before in
+    let s = m .before .before .before in
+    let names = among (s .args .r) kindScheduled
+    (⊎-elim (λ w. inr (w .keys1)) (λ w. inl (omega (arith, w .1 .left), omega (arith, w .2 .taken))) (m .match .came)) in
+    (s .pre .0, names)
 
 on-new-order-requires : tie.Need-on-new-order-requires
 on-new-order-requires c κs =
     let j = c .before in
-    let s = j .before .before .before in
-    let kind : s .args .r .kind ≡ kindNewOrder =
-    ⊎-elim (λ w. omega (arith, w .taken, s .pre .from)) (λ w. omega (arith, w .1 .left, s .pre .upto)) (j .if1 .came) in
-    (s .pre, kind)
+    let m = j .before in
+    let s = m .before .before .before in
+    let kind = ⊎-elim (λ w. inl (w .taken)) (λ w. inr (w .1 .left)) (j .if1 .came) in
+    (s .pre .0, else-new-order (s .args .r) (s .pre .1) (not-among (s .args .r) kindScheduled kind (m .match .rest .1)))
 
 same-length : tie.Need-same-length
 same-length c = search needs
@@ -31,4 +36,4 @@ returns-2 : tie.Need-returns-2
 returns-2 c = search needs
 
 pub on-file-spec : {M : Type 1} → statement M
-on-file-spec = tie.close (tie.spec on-named-requires on-new-order-requires same-length returns same-length-2 returns-2)
+on-file-spec = tie.close (tie.spec on-new-order-requires on-named-requires same-length returns same-length-2 returns-2)

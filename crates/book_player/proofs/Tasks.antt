@@ -5,18 +5,17 @@ use mathlib.Core.List.{List, []}
 use mathlib.Core.Option.{Option, none, some}
 use mathlib.Core.Bool.{Bool, true, false, cond, not, _&&_}
 use native.Mathlib.Omega.{arith}
-use lib.Dec.{eqb, leb}
+use lib.Dec.{eqb}
 use lib.ListN.{length, take, getD, replicate}
 use lib.Seq.{getD-take}
-use borrow.Author.Tests.{eqb-true, eqb-false, leb-true, leb-false, eq-eqb, ne-eqb, le-leb}
+use borrow.Author.Tests.{eqb-true, eqb-false, eq-eqb, ne-eqb}
 use Rattle.lists.specs.Search.{anyOf}
 use Rattle.lists.specs.Shift.{inserted, removed}
-use Rattle.lists.proofs.TestLaws.{by-test, and-left, and-right, and-other}
+use Rattle.lists.proofs.TestLaws.{by-test}
 use Rattle.records.specs.declared.Record.{Record}
 use Rattle.records.specs.declared.Reading.{Reading}
 use Rattle.records.specs.declared.Reading.the-variants.{Malformed, Says}
-use Rattle.records.specs.Records.{reading, kindCreate, kindRetire, kindReply, kindDayMark}
-use Rattle.records.proofs.Formed.{formed}
+use Rattle.records.specs.Records.{reading, kindCreate, kindRetire, kindDayMark}
 use Rattle.records.proofs.Readings.{says}
 use Rattle.premise.specs.declared.File.{File}
 use Rattle.premise.specs.declared.Answer.{Answer}
@@ -25,6 +24,7 @@ use Rattle.premise.specs.Orders.{isOpen, held}
 use Rattle.premise.specs.Steps.{is, newFile}
 use Rattle.premise.specs.Refusals.{isHeld, needsPremise}
 use Rattle.premise.specs.OnePremise.{Given, refused, step, givenOn}
+use Rattle.premise.proofs.KindsOf.{else-mark}
 use Rattle.premise_steps.proofs.CreateRetire.{create-held, create-done, retire-open, retire-done}
 use Rattle.book.specs.declared.Book.{Book}
 use Rattle.book.specs.Book.{mostFiles, filesOf, bookOf, fileFor, withFile, bookKept}
@@ -133,14 +133,12 @@ module _ (bytes : List ℕ) (b : Book) (well : bookKept b ≡ true) where
 
       pub stands : needsPremise r ≡ true → is kindRetire r ≡ false → KnownHeld bytes b past at r
       stands needs stays =
-          let from = leb-true kindRetire (r .kind) (and-left (leb kindRetire (r .kind)) (leb (r .kind) kindReply) needs) in
           record {
             says = e;
             held = record {
               within = within;
               own = ap (λ (f : File). f .premise) (sym file-is) ∙ own;
-              from = omega (arith, from, eqb-false (r .kind) kindRetire stays);
-              upto = leb-true (r .kind) kindReply (and-right (leb kindRetire (r .kind)) (leb (r .kind) kindReply) needs);
+              kind = record { needs = needs; stays = stays };
             };
           }
 
@@ -209,15 +207,6 @@ module _ (bytes : List ℕ) (b : Book) (well : bookKept b ≡ true) where
         (λ next. record { result = λ calendar. by-day calendar true next })
         (λ other. record { result = λ calendar. by-day calendar false other })
 
-    -- a record that is neither a create nor needs a premise marks a day
-    is-mark : is kindCreate r ≡ false → needsPremise r ≡ false → is kindDayMark r ≡ true
-    is-mark other neither =
-        let kinds = formed r (says bytes r e .formed) .kind in
-        let n = eqb-false (r .kind) kindCreate other in
-        let from = le-leb kindRetire (r .kind) (omega (arith, n, kinds .given)) in
-        let above = leb-false (r .kind) kindReply (and-other (leb kindRetire (r .kind)) (leb (r .kind) kindReply) neither from) in
-        eq-eqb (r .kind) kindDayMark (omega (arith, above, kinds .within))
-
   module _ (premises : List ℕ) (same : premises ≡ numbersOf b) where
     of-reading : (d : Reading) → reading bytes ≡ d → Known bytes b past (taskIn (b .today) (take (b .count) premises) (b .count) d)
     of-reading Malformed e = record { result = λ calendar. call-malformed calendar b bytes lent well called-room e }
@@ -229,7 +218,7 @@ module _ (bytes : List ℕ) (b : Book) (well : bookKept b ≡ true) where
         (λ create. of-new r e create there known)
         (λ other. by-test (Known bytes b past) (needsPremise r) (onHeld r there) (onMark (b .today) (r .day))
         (λ needs. of-held r e needs there known)
-        (λ neither. of-mark r e (is-mark r e other neither)))
+        (λ neither. of-mark r e (else-mark r (says bytes r e .formed) other neither)))
 
     -- The dispatch on a well-kept book tells what is so.
     pub task-known : Known bytes b past (taskOf bytes (b .today) premises (b .count))

@@ -7,14 +7,12 @@ use mathlib.Core.Bool.{Bool, true, false, cond}
 use native.Mathlib.Omega.{arith}
 use lib.ListN.{length, getD, length-map}
 use lib.Seq.{getD-take}
-use borrow.Author.Tests.{ne-eqb}
 use Rattle.lists.specs.Search.{anyOf}
 use Rattle.lists.specs.Shift.{inserted, removed}
 use Rattle.lists.proofs.SearchLaws.{each-at}
 use Rattle.days.specs.Days.{lastDay}
 use Rattle.records.specs.declared.Record.{Record}
 use Rattle.records.specs.Layout.{recordLength}
-use Rattle.records.specs.Records.{kindNewOrder, kindDayMark}
 use Rattle.records.proofs.Readings.{says}
 use Rattle.premise.specs.declared.File.{File}
 use Rattle.premise.specs.declared.PremiseAfter.{PremiseAfter}
@@ -24,7 +22,8 @@ use Rattle.premise.specs.Orders.{isOpen, held}
 use Rattle.premise.specs.Steps.{newFile}
 use Rattle.premise.specs.WellKept.{Tidy, FileKept}
 use Rattle.premise.specs.OnePremise.{givenOn}
-use Rattle.premise.specs.Promises.{Writes, OnFile, Answered}
+use Rattle.premise.specs.Promises.{Writes, OnFile, StaysHeld, Answered}
+use Rattle.premise.proofs.KindsOf.{needs-no-mark}
 use Rattle.premise_laws.proofs.Few.{step-few}
 use Rattle.premise_laws.proofs.Writes.{writes-none}
 use Rattle.book.specs.declared.Book.{Book}
@@ -121,22 +120,12 @@ module _ {b : Book} {numbers : List ℕ} {standing : ℕ} {buffer : List ℕ} (t
       pub held-place : at < mostFiles
       held-place = omega (arith, found .held .within, well-kept .tidy .few)
 
-      pub held-asks : (calendar : List ℕ) → OnFile kindNewOrder calendar (b .today) (getD (b .files) at past) r standing buffer
+      pub held-asks : (calendar : List ℕ) → OnFile calendar (b .today) (getD (b .files) at past) r standing buffer × StaysHeld r
       held-asks calendar =
           let f = file-kept at (found .held .within) in
-          record {
-            tidy = f .tidy;
-            from = found .held .from;
-            upto = found .held .upto;
-            room = omega (
-              arith,
-              step-few calendar (record { today = b .today; file = some (getD (b .files) at past) }) r
-                  (says bytes r (found .says) .formed)
-                  (ne-eqb (r .kind) kindDayMark (λ q. omega (arith, q, found .held .upto)))
-                  f,
-              t .room,
-            );
-          }
+          let few = step-few calendar (record { today = b .today; file = some (getD (b .files) at past) }) r
+          (says bytes r (found .says) .formed) (needs-no-mark r (found .held .kind .needs)) f in
+          (record { tidy = f .tidy; room = omega (arith, few, t .room) }, found .held .kind)
 
       pub by-file : {calendar : List ℕ} (p : PremiseAfter) {after : List ℕ}
           → Answered (givenOn calendar (b .today) (some (getD (b .files) at past)) r) standing p buffer after

@@ -35,7 +35,7 @@ abbrev pub onNew : Record → ℕ → Place → Task
 onNew r count (Held at) = Refused PremiseHeld
 onNew r count (Free at) = cond (eqb count mostFiles) (Refused BookFull) (Opens at r)
 
--- kinds 2 to 9: row 4; a retire takes the file out of the book, any other leaves it there
+-- a record that needs a premise: row 4; a retire takes the file out of the book, any other leaves it there
 abbrev pub onHeld : Record → Place → Task
 onHeld r (Held at) = cond (is kindRetire r) (Closes at) (OnFile at r)
 onHeld r (Free at) = Refused NoSuchPremise

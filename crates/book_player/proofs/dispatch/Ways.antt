@@ -1,13 +1,13 @@
 -- Each way that the dispatch goes. Assumes nothing.
 use Prim.Native.Nat.{ℕ, _+_, _≤_, _<_}
 use mathlib.Core.Path.{_≡_}
-use mathlib.Core.Logic.{_⊎_, ⊎-elim}
+use mathlib.Core.Logic.{_⊎_}
 use mathlib.Core.List.{List}
-use mathlib.Core.Bool.{and-false}
-use borrow.Author.Tests.{eq-eqb, ne-eqb, le-leb, lt-leb}
+use borrow.Author.Tests.{eq-eqb, ne-eqb}
 use Rattle.records.specs.declared.Record.{Record}
-use Rattle.records.specs.Records.{kindCreate, kindRetire, kindReply}
+use Rattle.records.specs.Records.{kindCreate, kindRetire, kindReply, kindDateChange}
 use Rattle.premise.specs.declared.Answer.the-variants.{BookFull, NotNextDay}
+use Rattle.premise.proofs.KindsOf.{among, not-among, needs-no-create}
 use Rattle.book.specs.Book.{mostFiles}
 use Rattle.book_files.specs.declared.premise_numbers.Place.{Place}
 use Rattle.book_files.specs.declared.premise_numbers.Place.the-variants.{Held, Free}
@@ -44,12 +44,10 @@ module _ (today : ℕ) (numbers : List ℕ) (count : ℕ) (r : Record) where
   pub kind-new : r .kind ≡ kindCreate → taskFor today numbers count r ≡ onNew r count (placeOfPremise (r .premise) numbers)
   kind-new h = rw (eq-eqb (r .kind) kindCreate h)
 
-  module _ (other : r .kind ≡ kindCreate → ⊥) where
-    pub kind-held : kindRetire ≤ r .kind → r .kind ≤ kindReply
-        → taskFor today numbers count r ≡ onHeld r (placeOfPremise (r .premise) numbers)
-    kind-held from upto = rw (ne-eqb (r .kind) kindCreate other, le-leb kindRetire (r .kind) from, le-leb (r .kind) kindReply upto)
+  pub kind-held : ((kindRetire ≤ r .kind) × (r .kind ≤ kindReply)) ⊎ (r .kind ≡ kindDateChange)
+      → taskFor today numbers count r ≡ onHeld r (placeOfPremise (r .premise) numbers)
+  kind-held kind = let needs = among r kindRetire kind in rw (needs-no-create r needs, needs)
 
-    pub kind-mark : (r .kind < kindRetire) ⊎ (kindReply < r .kind) → taskFor today numbers count r ≡ onMark today (r .day)
-    kind-mark out =
-        ⊎-elim (λ h. rw (ne-eqb (r .kind) kindCreate other, lt-leb kindRetire (r .kind) h))
-        (λ h. rw (ne-eqb (r .kind) kindCreate other, lt-leb (r .kind) kindReply h, and-false)) out
+  pub kind-mark : (r .kind ≡ kindCreate → ⊥) → (r .kind < kindRetire) ⊎ (kindReply < r .kind) → (r .kind ≡ kindDateChange → ⊥)
+      → taskFor today numbers count r ≡ onMark today (r .day)
+  kind-mark create out change = rw (ne-eqb (r .kind) kindCreate create, not-among r kindRetire out change)

@@ -27,19 +27,6 @@ returns-2 c =
 
 returns-3 : tie.Need-returns-3
 returns-3 c =
-    let t = c .before in
-    let u = t .before in
-    let m = u .before in
-    let d = m .before .before in
-    let w = d .before .before in
-    let a = w .before .before .before .args in
-    c .on-held .ensures ∙ sym
-    (task-read (a .bytes .now) (a .today) (a .premises .now) (a .count) _ (sym (w .read-record .ensures) ∙ d .reading .given .1)
-    ∙ kind-held (a .today) (take (a .count) (a .premises .now)) (a .count) (d .reading .given .0 .0) (m .match2 .rest .1)
-    (omega (arith, m .match2 .rest .1, u .if1 .left)) (omega (arith, t .if2 .taken)))
-
-returns-4 : tie.Need-returns-4
-returns-4 c =
     let j = c .before in
     let m = j .before in
     let d = m .before .before in
@@ -47,8 +34,19 @@ returns-4 c =
     let a = w .before .before .before .args in
     c .on-mark .ensures ∙ sym
     (task-read (a .bytes .now) (a .today) (a .premises .now) (a .count) _ (sym (w .read-record .ensures) ∙ d .reading .given .1)
-    ∙ kind-mark (a .today) (take (a .count) (a .premises .now)) (a .count) (d .reading .given .0 .0) (m .match2 .rest .1)
-    (⊎-elim (λ t. inl (omega (arith, t .taken))) (λ t. inr (omega (arith, t .1 .left))) (j .if1 .came)))
+    ∙ kind-mark (a .today) (take (a .count) (a .premises .now)) (a .count) (d .reading .given .0 .0) (m .match2 .rest .0 .1)
+    (⊎-elim (λ t. inl (omega (arith, t .taken))) (λ t. inr (omega (arith, t .1 .left))) (j .if1 .came)) (m .match2 .rest .1))
+
+returns-4 : tie.Need-returns-4
+returns-4 c =
+    let m = c .before in
+    let d = m .before .before in
+    let w = d .before .before in
+    let a = w .before .before .before .args in
+    c .on-held .ensures ∙ sym
+    (task-read (a .bytes .now) (a .today) (a .premises .now) (a .count) _ (sym (w .read-record .ensures) ∙ d .reading .given .1)
+    ∙ kind-held (a .today) (take (a .count) (a .premises .now)) (a .count) (d .reading .given .0 .0)
+    (⊎-elim (λ t. inr (t .keys2)) (λ t. inl (omega (arith, t .1 .left), omega (arith, t .2 .taken))) (m .match2 .came)))
 
 pub task-of-spec : {M : Type 1} → statement M
 task-of-spec =

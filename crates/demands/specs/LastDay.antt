@@ -76,6 +76,7 @@ switchOf reference submitter =
       waited = record { 0 = 0 };
       pending = record { 0 = 0 };
       told = 1;
+      counter = 0;
     }
 
 abbrev pub fileOf : ℕ → ℕ → Order → File

@@ -36,12 +36,16 @@ create7 = 1 ∷ 0 ∷ 0 ∷ 0 ∷ 0 ∷ 0 ∷ 0 ∷ 0 ∷ 7 ∷ 0 ∷ 0 ∷ 0 �
 unfoldable pub create5 : List ℕ
 create5 = 1 ∷ 0 ∷ 0 ∷ 0 ∷ 0 ∷ 0 ∷ 0 ∷ 0 ∷ 5 ∷ 0 ∷ 0 ∷ 0 ∷ 0 ∷ 0 ∷ 0 ∷ 0 ∷ 102 ∷ 0 ∷ 0 ∷ 0 ∷ 0 ∷ 0 ∷ 0 ∷ 0 ∷ []
 
--- a standard switch on each: reference 1 to retailer 202, reference 9 to retailer 203
+-- an order on each: of 7 a standard switch, reference 1 to retailer 202; of 5 a move in for day 2, reference 9 to retailer 203
 unfoldable pub order7 : List ℕ
 order7 = 3 ∷ 3 ∷ 0 ∷ 0 ∷ 1 ∷ 0 ∷ 0 ∷ 0 ∷ 7 ∷ 0 ∷ 0 ∷ 0 ∷ 0 ∷ 0 ∷ 0 ∷ 0 ∷ 202 ∷ 0 ∷ 0 ∷ 0 ∷ 0 ∷ 0 ∷ 0 ∷ 0 ∷ []
 
 unfoldable pub order5 : List ℕ
-order5 = 3 ∷ 3 ∷ 0 ∷ 0 ∷ 9 ∷ 0 ∷ 0 ∷ 0 ∷ 5 ∷ 0 ∷ 0 ∷ 0 ∷ 0 ∷ 0 ∷ 0 ∷ 0 ∷ 203 ∷ 0 ∷ 0 ∷ 0 ∷ 0 ∷ 0 ∷ 0 ∷ 0 ∷ []
+order5 = 3 ∷ 1 ∷ 2 ∷ 0 ∷ 9 ∷ 0 ∷ 0 ∷ 0 ∷ 5 ∷ 0 ∷ 0 ∷ 0 ∷ 0 ∷ 0 ∷ 0 ∷ 0 ∷ 203 ∷ 0 ∷ 0 ∷ 0 ∷ 0 ∷ 0 ∷ 0 ∷ 0 ∷ []
+
+-- the move in's date changed to day 4, with counter 6
+unfoldable pub change5 : List ℕ
+change5 = 11 ∷ 0 ∷ 4 ∷ 0 ∷ 9 ∷ 0 ∷ 0 ∷ 0 ∷ 5 ∷ 0 ∷ 0 ∷ 0 ∷ 0 ∷ 0 ∷ 0 ∷ 0 ∷ 6 ∷ 0 ∷ 0 ∷ 0 ∷ 0 ∷ 0 ∷ 0 ∷ 0 ∷ []
 
 -- both scheduled for day 3, which is out of window on day 0
 unfoldable pub scheduled7 : List ℕ
@@ -61,20 +65,23 @@ malformed = 3 ∷ []
 unfoldable pub calendar : List ℕ
 calendar = replicate 10 0
 
+-- the date change stands there twice: the second time its counter is not above the kept one
 unfoldable pub tape : List (List ℕ)
-tape = create7 ∷ create5 ∷ order7 ∷ create7 ∷ order5 ∷ malformed ∷ scheduled5 ∷ scheduled7 ∷ mark1 ∷ mark1 ∷ []
+tape = create7 ∷ create5 ∷ order7 ∷ create7 ∷ order5 ∷ malformed ∷ change5 ∷ change5 ∷ scheduled5 ∷ scheduled7 ∷ mark1 ∷ mark1 ∷ []
 
 unfoldable pub sample : List Made
 sample = plays calendar (freshBook 0) tape
 
 -- the same in another order between the premises, with the malformed one twice
 unfoldable pub shuffled : List (List ℕ)
-shuffled = create5 ∷ order5 ∷ create7 ∷ malformed ∷ malformed ∷ order7 ∷ scheduled5 ∷ create7 ∷ scheduled7 ∷ mark1 ∷ mark1 ∷ []
+shuffled =
+    create5 ∷ order5 ∷ create7 ∷ malformed ∷ malformed ∷ change5 ∷ order7 ∷ change5 ∷ scheduled5 ∷ create7 ∷ scheduled7 ∷ mark1 ∷ mark1 ∷ []
 
 unfoldable pub again : List Made
 again = plays calendar (freshBook 0) shuffled
 
--- ---- the notices: the order to the TDSP, its day to the new retailer, and on the mark to the retailer that loses the premise
+-- ---- the notices: the order and its new date to the TDSP, its day to the new retailer, and on the mark to the retailer that loses the
+-- premise
 unfoldable pub ordered7 : List ℕ
 ordered7 = 1 ∷ 3 ∷ 0 ∷ 0 ∷ 1 ∷ 0 ∷ 0 ∷ 0 ∷ 7 ∷ 0 ∷ 0 ∷ 0 ∷ 0 ∷ 0 ∷ 0 ∷ 0 ∷ 0 ∷ 0 ∷ 0 ∷ 0 ∷ 0 ∷ 0 ∷ 0 ∷ 0 ∷ []
 
@@ -85,13 +92,16 @@ unfoldable pub losing7 : List ℕ
 losing7 = 4 ∷ 3 ∷ 3 ∷ 0 ∷ 1 ∷ 0 ∷ 0 ∷ 0 ∷ 7 ∷ 0 ∷ 0 ∷ 0 ∷ 0 ∷ 0 ∷ 0 ∷ 0 ∷ 101 ∷ 0 ∷ 0 ∷ 0 ∷ 0 ∷ 0 ∷ 0 ∷ 0 ∷ []
 
 unfoldable pub ordered5 : List ℕ
-ordered5 = 1 ∷ 3 ∷ 0 ∷ 0 ∷ 9 ∷ 0 ∷ 0 ∷ 0 ∷ 5 ∷ 0 ∷ 0 ∷ 0 ∷ 0 ∷ 0 ∷ 0 ∷ 0 ∷ 0 ∷ 0 ∷ 0 ∷ 0 ∷ 0 ∷ 0 ∷ 0 ∷ 0 ∷ []
+ordered5 = 1 ∷ 1 ∷ 2 ∷ 0 ∷ 9 ∷ 0 ∷ 0 ∷ 0 ∷ 5 ∷ 0 ∷ 0 ∷ 0 ∷ 0 ∷ 0 ∷ 0 ∷ 0 ∷ 0 ∷ 0 ∷ 0 ∷ 0 ∷ 0 ∷ 0 ∷ 0 ∷ 0 ∷ []
+
+unfoldable pub changed5 : List ℕ
+changed5 = 9 ∷ 1 ∷ 4 ∷ 0 ∷ 9 ∷ 0 ∷ 0 ∷ 0 ∷ 5 ∷ 0 ∷ 0 ∷ 0 ∷ 0 ∷ 0 ∷ 0 ∷ 0 ∷ 0 ∷ 0 ∷ 0 ∷ 0 ∷ 0 ∷ 0 ∷ 0 ∷ 0 ∷ []
 
 unfoldable pub dated5 : List ℕ
-dated5 = 3 ∷ 3 ∷ 3 ∷ 0 ∷ 9 ∷ 0 ∷ 0 ∷ 0 ∷ 5 ∷ 0 ∷ 0 ∷ 0 ∷ 0 ∷ 0 ∷ 0 ∷ 0 ∷ 203 ∷ 0 ∷ 0 ∷ 0 ∷ 0 ∷ 0 ∷ 0 ∷ 0 ∷ []
+dated5 = 3 ∷ 1 ∷ 3 ∷ 0 ∷ 9 ∷ 0 ∷ 0 ∷ 0 ∷ 5 ∷ 0 ∷ 0 ∷ 0 ∷ 0 ∷ 0 ∷ 0 ∷ 0 ∷ 203 ∷ 0 ∷ 0 ∷ 0 ∷ 0 ∷ 0 ∷ 0 ∷ 0 ∷ []
 
 unfoldable pub losing5 : List ℕ
-losing5 = 4 ∷ 3 ∷ 3 ∷ 0 ∷ 9 ∷ 0 ∷ 0 ∷ 0 ∷ 5 ∷ 0 ∷ 0 ∷ 0 ∷ 0 ∷ 0 ∷ 0 ∷ 0 ∷ 102 ∷ 0 ∷ 0 ∷ 0 ∷ 0 ∷ 0 ∷ 0 ∷ 0 ∷ []
+losing5 = 4 ∷ 1 ∷ 3 ∷ 0 ∷ 9 ∷ 0 ∷ 0 ∷ 0 ∷ 5 ∷ 0 ∷ 0 ∷ 0 ∷ 0 ∷ 0 ∷ 0 ∷ 0 ∷ 102 ∷ 0 ∷ 0 ∷ 0 ∷ 0 ∷ 0 ∷ 0 ∷ 0 ∷ []
 
 -- what stands in each call's buffer on return
 unfoldable pub buffers : List Made → List (List (List ℕ))
@@ -100,10 +110,10 @@ buffers ms = map (λ (m : Made). rows (m .reply .sent) (m .after)) ms
 -- ---- what comes out: for two premises, for one that has no file, and in every buffer
 pub record Comes : Type 0 where
   pub answers7 : answers 7 sample ≡ 0 ∷ 0 ∷ 5 ∷ 0 ∷ 0 ∷ 15 ∷ []
-  pub answers5 : answers 5 sample ≡ 0 ∷ 0 ∷ 0 ∷ 0 ∷ 15 ∷ []
+  pub answers5 : answers 5 sample ≡ 0 ∷ 0 ∷ 0 ∷ 16 ∷ 0 ∷ 0 ∷ 15 ∷ []
   pub answers6 : answers 6 sample ≡ 0 ∷ 15 ∷ []
   pub notices7 : noticesFor 7 sample ≡ ordered7 ∷ dated7 ∷ losing7 ∷ []
-  pub notices5 : noticesFor 5 sample ≡ ordered5 ∷ dated5 ∷ losing5 ∷ []
+  pub notices5 : noticesFor 5 sample ≡ ordered5 ∷ changed5 ∷ dated5 ∷ losing5 ∷ []
   pub notices6 : noticesFor 6 sample ≡ []
-  pub all : buffers sample ≡ [] ∷ [] ∷ (ordered7 ∷ []) ∷ [] ∷ (ordered5 ∷ []) ∷ [] ∷ (dated5 ∷ []) ∷ (dated7 ∷ [])
+  pub all : buffers sample ≡ [] ∷ [] ∷ (ordered7 ∷ []) ∷ [] ∷ (ordered5 ∷ []) ∷ [] ∷ (changed5 ∷ []) ∷ [] ∷ (dated5 ∷ []) ∷ (dated7 ∷ [])
       ∷ (losing5 ∷ losing7 ∷ []) ∷ [] ∷ []

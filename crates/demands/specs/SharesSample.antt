@@ -47,6 +47,7 @@ dropped reference submitter =
       waited = record { 0 = 0 };
       pending = record { 0 = 0 };
       told = 0;
+      counter = 0;
     }
 
 unfoldable pub file7 : File

@@ -1,5 +1,5 @@
--- Which kinds of records need a premise, and which name an order, by their number: none of them is a create or a day mark, and a well-formed
--- record of any other kind is one of those two. Assumes nothing.
+-- Which kinds of records need a premise, and which name an order, by their number: none of them is a create or a day mark, and a
+-- well-formed record of any other kind is one of those two. Assumes nothing.
 use Prim.Native.Nat.{ℕ, _≤_, _<_}
 use mathlib.Core.Path.{_≡_, refl, sym, ap, _∙_}
 use mathlib.Core.Logic.{_⊎_, ⊎-elim}

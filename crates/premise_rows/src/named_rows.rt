@@ -42,8 +42,8 @@ fn is_taken(r: Record, o: Order) -> bool
     }
 }
 
-// The answer to a record that names the order at a place. Row 13, another retailer's cancel; row 14; of a date change rows 16, a counter not
-// above the order's, and 17, an order that is Scheduled up to the last day in window; in their order.
+// The answer to a record that names the order at a place. Row 13, another retailer's cancel; row 14; of a date change row 16, a counter
+// not above the order's, and row 17, an order that is Scheduled up to the last day in window; in their order.
 pub fn named_answer(last: u16, file: File, r: Record, i: usize) -> Answer
     requires { ⌜ Tidy file × (i < file .count) ⌝ }
     ensures { λ a. ⌜ a ≡ namedAnswer (upTo last) r (getD (held file) i blank) ⌝ }

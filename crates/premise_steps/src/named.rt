@@ -1,4 +1,5 @@
-// A record that names an order (kinds 4 to 9 and 11) on a file: which row refuses it, what it does to the order that it names, and the evaluation that ends it.
+// A record that names an order (kinds 4 to 9 and 11) on a file: which row refuses it, what it does to that order, and the evaluation that
+// ends it.
 ghost use mathlib.Core.Path.{_≡_};
 ghost use mathlib.Core.Option.{some};
 ghost use mathlib.Core.Bool.{true};

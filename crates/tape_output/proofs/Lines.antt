@@ -15,7 +15,8 @@ use Rattle.premise.specs.declared.File.{File}
 use Rattle.premise.specs.declared.Answer.{Answer}
 use Rattle.premise.specs.declared.Answer.the-variants.{Accepted, ShortBuffer, NotWellKept, MalformedRecord, NoSuchPremise, PremiseHeld}
 use Rattle.premise.specs.declared.Answer.the-variants.{BookFull, OrderOpen, ReferenceHeld, DayOutOfRange, NoSwitchDate, NotFirstIn}
-use Rattle.premise.specs.declared.Answer.the-variants.{RetailerShareFull, StackFull, NoSuchOrder, StatusNotTaken, NotNextDay}
+use Rattle.premise.specs.declared.Answer.the-variants.{RetailerShareFull, StackFull, NoSuchOrder, StatusNotTaken}
+use Rattle.premise.specs.declared.Answer.the-variants.{CounterNotAbove, OrderInWindow, NotNextDay}
 use Rattle.premise.specs.Refusals.{number}
 use Rattle.premise.specs.WellKept.{FileKept}
 use Rattle.book.specs.Book.{filesOf}
@@ -48,6 +49,8 @@ number-most RetailerShareFull = omega arith
 number-most StackFull = omega arith
 number-most NoSuchOrder = omega arith
 number-most StatusNotTaken = omega arith
+number-most CounterNotAbove = omega arith
+number-most OrderInWindow = omega arith
 number-most NotNextDay = omega arith
 
 -- ---- the lines of notices: rows of bytes

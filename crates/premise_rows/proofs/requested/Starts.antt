@@ -9,8 +9,8 @@ use Rattle.premise.specs.Orders.{inReview, businessDays, calendarDays}
 use Rattle.premise.specs.Steps.{requestedDay, waitBegun, newOrder}
 
 -- by its requested day and the wait that begins
-pub started : (calendar : List ℕ) (today : ℕ) (r : Record) (requested : ℕ) → requested ≡ requestedDay calendar today r → (waited : BusinessDays)
-    → waited ≡ businessDays (waitBegun calendar today)
+pub started : (calendar : List ℕ) (today : ℕ) (r : Record) (requested : ℕ) → requested ≡ requestedDay calendar today r
+    → (waited : BusinessDays) → waited ≡ businessDays (waitBegun calendar today)
     → record {
       reference = r .reference;
       kind = r .detail;

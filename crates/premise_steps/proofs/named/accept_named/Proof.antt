@@ -23,8 +23,8 @@ change-order-requires c κs =
     let a = s .args in
     let f = a .t4 in
     changed-room (a .calendar .now) (a .today) f (a .r) (a .i) (at-held f (a .i) (s .pre .within)) (a .standing) (a .buffer .now)
-    (then-first (changed (a .calendar .now) (a .today) f (a .r) (a .i) (getD (held f) (a .i) blank)) (evaluated (a .calendar .now) (a .today)) (a .standing)
-    (a .buffer .now) (s .pre .room))
+    (then-first (changed (a .calendar .now) (a .today) f (a .r) (a .i) (getD (held f) (a .i) blank))
+    (evaluated (a .calendar .now) (a .today)) (a .standing) (a .buffer .now) (s .pre .room))
 
 supply-requires : tie.Need-supply-requires
 supply-requires c κs = search needs
@@ -44,8 +44,8 @@ evaluate-requires c κs =
     let s = q .before .before .before .before .before in
     let a = s .args in
     let f = a .t4 in
-    let d = changed-done (a .calendar .now) (a .today) f (a .r) (a .i) (at-held f (a .i) (s .pre .within)) (q .change-order .ensures) (h .supply .ensures)
-    (g .with-order .ensures) in
+    let d = changed-done (a .calendar .now) (a .today) f (a .r) (a .i) (at-held f (a .i) (s .pre .within)) (q .change-order .ensures)
+    (h .supply .ensures) (g .with-order .ensures) in
     let ready = supplied-ready f (a .r) (getD (f .orders) (a .i) blank) (s .pre .tidy) (a .i) (s .pre .within) (h .supply .result)
     (h .supply .ensures) in
     record {
@@ -67,8 +67,8 @@ returns c =
     let s = q .before .before .before .before .before in
     let a = s .args in
     let f = a .t4 in
-    let d = changed-done (a .calendar .now) (a .today) f (a .r) (a .i) (at-held f (a .i) (s .pre .within)) (q .change-order .ensures) (h .supply .ensures)
-    (g .with-order .ensures) in
+    let d = changed-done (a .calendar .now) (a .today) f (a .r) (a .i) (at-held f (a .i) (s .pre .within)) (q .change-order .ensures)
+    (h .supply .ensures) (g .with-order .ensures) in
     then-done (evaluated (a .calendar .now) (a .today)) d (s .pre .room) (v .evaluate .ensures)
 
 pub accept-named-spec : {M : Type 1} → statement M

@@ -12,19 +12,19 @@ use record_bytes::four;
 use record_bytes::two;
 use record_bytes::wide;
 
-const ORDER_BYTES: usize = 17;
+const ORDER_BYTES: usize = 21;
 
 // a file: its head, and 8 orders
 const HEAD_BYTES: usize = 15;
 
-const FILE_BYTES: usize = 151;
+const FILE_BYTES: usize = 183;
 
 // a book: its head of 3 bytes, and 64 files
-pub const BOOK_BYTES: usize = 9_667;
+pub const BOOK_BYTES: usize = 11_715;
 
-// An order, from its 17 bytes.
+// An order, from its 21 bytes.
 fn order_from(bytes: &[u8], at: usize) -> Order
-    requires { ⌜ at + 17 ≤ length (now bytes) ⌝ }
+    requires { ⌜ at + 21 ≤ length (now bytes) ⌝ }
 {
     let waited = BusinessDays(bytes[at + 14]);
     let pending = CalendarDays(bytes[at + 15]);
@@ -38,6 +38,7 @@ fn order_from(bytes: &[u8], at: usize) -> Order
         waited: waited,
         pending: pending,
         told: bytes[at + 16],
+        counter: four(bytes, at + 17),
     }
 }
 
@@ -53,9 +54,9 @@ fn head_from(bytes: &[u8], at: usize) -> File
     file
 }
 
-// A file, from its 151 bytes.
+// A file, from its 183 bytes.
 fn file_from(bytes: &[u8], at: usize) -> File
-    requires { ⌜ at + 151 ≤ length (now bytes) ⌝ }
+    requires { ⌜ at + 183 ≤ length (now bytes) ⌝ }
 {
     let mut file = head_from(bytes, at);
     let mut i: usize = 0;
@@ -69,9 +70,9 @@ fn file_from(bytes: &[u8], at: usize) -> File
     file
 }
 
-// A book, from its 9,667 bytes.
+// A book, from its 11,715 bytes.
 pub fn book_from(bytes: &[u8]) -> Book
-    requires { ⌜ 9667 ≤ length (now bytes) ⌝ }
+    requires { ⌜ 11715 ≤ length (now bytes) ⌝ }
 {
     let mut b = book_files::empty(two(bytes, 0));
     b.count = wide(bytes[2]) as usize;

@@ -6,9 +6,9 @@ use book::Book;
 use premise::File;
 use premise::Order;
 
-// A line: a letter and at most 11 numbers.
+// A line: a letter and at most 12 numbers.
 pub fn say(letter: u8, numbers: &[u64])
-    requires { ⌜ length (now numbers) ≤ 11 ⌝ }
+    requires { ⌜ length (now numbers) ≤ 12 ⌝ }
 {
     let mut out = [0u8; 256];
     let stop = tape_text::put_lettered(letter, numbers, 0, &mut out);
@@ -81,6 +81,7 @@ fn say_order(file_place: usize, place: usize, o: Order) {
             waited.0 as u64,
             pending.0 as u64,
             o.told as u64,
+            o.counter as u64,
         ],
     );
 }

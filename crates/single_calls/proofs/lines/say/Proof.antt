@@ -1,4 +1,4 @@
--- `say` is safe: the longest line of 11 numbers fits its buffer. Assumes nothing.
+-- `say` is safe: the longest line of 12 numbers fits its buffer. Assumes nothing.
 use mathlib.Core.Path.{sym}
 use native.Mathlib.Omega.{arith}
 use lib.Seq.{length-take-le}

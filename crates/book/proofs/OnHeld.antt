@@ -8,7 +8,6 @@ use mathlib.Core.Bool.{Bool, false, cond}
 use native.Mathlib.Omega.{arith}
 use lib.ListN.{length, getD}
 use lib.Seq.{getD-take, map-set-same}
-use borrow.Author.Tests.{ne-eqb}
 use Rattle.records.specs.declared.Record.{Record}
 use Rattle.records.specs.declared.Reading.the-variants.{Says}
 use Rattle.records.specs.Records.{reading, kindDayMark}

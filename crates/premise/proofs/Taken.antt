@@ -13,7 +13,7 @@ use Rattle.premise.specs.Orders.{inReview, permitPending, scheduled, can
 use Rattle.premise.specs.Steps.{is, taken}
 
 -- a record with its kind written in it: the tests on the kind then compute
-abbrev ofKind : ℕ → Record → Record
+abbrev pub ofKind : ℕ → Record → Record
 ofKind kind r = record {
   kind = kind;
   detail = r .detail;

@@ -42,7 +42,7 @@ fn file_is_empty(file: &File) -> bool {
 
 /// Is every field 0? One test over all of them.
 fn order_is_empty(order: &Order) -> bool {
-    let numbers = order.reference | order.retailer;
+    let numbers = order.reference | order.retailer | order.counter;
     let days = order.requested_day | order.scheduled_day;
     let bytes =
         order.kind | order.status | order.waited.0 | order.cancel_pending_for.0 | order.told;

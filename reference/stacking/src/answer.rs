@@ -29,13 +29,17 @@ pub enum Answer {
     /// The order's status or kind does not take this record.
     NotTaken = 14,
     NotTheNextDay = 15,
+    /// The date change's counter is not above the one that the order keeps.
+    CounterNotAbove = 16,
+    /// The order whose date is to change is Scheduled and in window.
+    DateChangeInWindow = 17,
     /// The new order's retailer has 4 or more open orders at the premise.
     FourOpenOrdersOfRetailer = 26,
 }
 
 impl Answer {
     /// Every answer, in the order of its number.
-    pub const ALL: [Answer; 17] = [
+    pub const ALL: [Answer; 19] = [
         Answer::Accepted,
         Answer::BufferTooShort,
         Answer::BookNotWellKept,
@@ -52,11 +56,22 @@ impl Answer {
         Answer::NoSuchOrder,
         Answer::NotTaken,
         Answer::NotTheNextDay,
+        Answer::CounterNotAbove,
+        Answer::DateChangeInWindow,
         Answer::FourOpenOrdersOfRetailer,
     ];
 
     /// The documents' number.
     pub fn number(self) -> u8 {
         self as u8
+    }
+}
+
+/// Ends a step with a row that is met.
+pub fn refuse_if(met: bool, row: Answer) -> Result<(), Answer> {
+    if met {
+        Err(row)
+    } else {
+        Ok(())
     }
 }

@@ -17,6 +17,11 @@ pub const LONGEST_WAIT: BusinessDays = BusinessDays(21);
 /// Cancel Pending ends after this wait.
 pub const CANCEL_PENDING_WAIT: CalendarDays = CalendarDays(7);
 
+/// The wait of an order that starts In Review today: a business day counts.
+pub fn first_wait(calendar: &[u8], today: u16) -> BusinessDays {
+    BusinessDays(u8::from(is_business_day(calendar, today)))
+}
+
 /// The day that has just begun.
 struct NewDay {
     /// T.

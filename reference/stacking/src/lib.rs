@@ -11,6 +11,7 @@
 pub mod answer;
 pub mod book;
 pub mod clock;
+pub mod date_change;
 pub mod days;
 pub mod evaluation;
 pub mod file;

@@ -30,14 +30,16 @@ pub enum Code {
     Unexecutable = 7,
     /// 814_09 reject.
     CancelRejected = 8,
+    /// 814_12.
+    DateChange = 9,
 }
 
 impl Code {
-    /// The code's day: the requested one while the order is new, else the
+    /// The code's day: the requested one where that is what is told, else the
     /// scheduled one, which may be "no day".
     fn day(self, order: &Order) -> u16 {
         match self {
-            Code::NewOrder | Code::NewMoveOut => order.requested_day,
+            Code::NewOrder | Code::NewMoveOut | Code::DateChange => order.requested_day,
             _ => order.scheduled_day,
         }
     }

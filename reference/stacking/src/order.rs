@@ -47,6 +47,8 @@ pub struct Order {
     pub cancel_pending_for: CalendarDays,
     /// 1 once the premise's retailer has been told, or did not have to be.
     pub told: u8,
+    /// The counter of the last date change that was taken, 0 before the first.
+    pub counter: u32,
 }
 
 impl Order {
@@ -61,6 +63,7 @@ impl Order {
         waited: BusinessDays(0),
         cancel_pending_for: CalendarDays(0),
         told: 0,
+        counter: 0,
     };
 
     pub fn is_open(&self) -> bool {

@@ -3,9 +3,10 @@
 //! Each step tests all its rows before it changes anything, so a refusal leaves
 //! file and notices as they were. Nothing here knows of other premises.
 
-use crate::answer::Answer;
-use crate::clock;
-use crate::days::{is_business_day, is_day, switch_date, BusinessDays, CalendarDays, NO_DAY};
+use crate::answer::{refuse_if, Answer};
+use crate::clock::{self, first_wait};
+use crate::date_change;
+use crate::days::{is_day, switch_date, BusinessDays, CalendarDays, NO_DAY};
 use crate::evaluation;
 use crate::file::{File, DE_ENERGIZED, OPEN_ORDERS_A_RETAILER};
 use crate::first_in::not_first_in;
@@ -24,7 +25,7 @@ pub fn may_retire(file: &File) -> Result<(), Answer> {
     refuse_if(file.has_open_order(), Answer::OpenOrderHeld)
 }
 
-/// Record kinds 3 to 9: rows 8 to 14 and 26, the record's step and, if it is accepted,
+/// Record kinds 3 to 9 and 11: rows 8 to 14, 16, 17 and 26, the record's step and, if it is accepted,
 /// the file's evaluation.
 pub fn order_record(
     file: &mut File,
@@ -48,7 +49,9 @@ pub fn order_step(
 ) -> Result<(), Answer> {
     match entry {
         OrderEntry::New(new) => new_order(file, calendar, today, &new, notices),
-        OrderEntry::Event { reference, event } => order_event(file, reference, event, notices),
+        OrderEntry::Event { reference, event } => {
+            order_event(file, calendar, today, reference, event, notices)
+        }
     }
 }
 
@@ -93,9 +96,10 @@ fn admit(file: &File, calendar: &[u8], today: u16, new: &NewOrder) -> Result<Ord
         scheduled_day: NO_DAY,
         kind: new.kind,
         status: status::IN_REVIEW,
-        waited: BusinessDays(u8::from(is_business_day(calendar, today))),
+        waited: first_wait(calendar, today),
         cancel_pending_for: CalendarDays(0),
         told: 0,
+        counter: 0,
     })
 }
 
@@ -115,9 +119,12 @@ fn requested_day(calendar: &[u8], today: u16, new: &NewOrder) -> Result<u16, Ans
     }
 }
 
-/// Record kinds 4 to 9, rows 13 and 14 and then the step.
+/// Record kinds 4 to 9 and 11, rows 13 and 14 and then the step; a date change
+/// has rows of its own after them.
 fn order_event(
     file: &mut File,
+    calendar: &[u8],
+    today: u16,
     reference: u32,
     event: Event,
     notices: &mut NoticeWriter,
@@ -132,6 +139,10 @@ fn order_event(
         Event::Cancel { .. } => cancel(file, place, notices),
         Event::CancelAccepted => cancel_accepted(file, place, notices),
         Event::CancelRejected => cancel_rejected(file, place, notices),
+        Event::DateChange { day, counter } => {
+            date_change::may_change(&file.orders[place], calendar, today, counter)?;
+            date_change::change(file, place, calendar, today, (day, counter), notices);
+        }
     }
     Ok(())
 }
@@ -159,6 +170,7 @@ fn takes(order: &Order, event: Event) -> bool {
         Event::MeterRead { .. } => matches!(order.status, PERMIT_PENDING | SCHEDULED),
         Event::Cancel { .. } => matches!(order.status, IN_REVIEW | PERMIT_PENDING | SCHEDULED),
         Event::CancelAccepted | Event::CancelRejected => order.status == CANCEL_PENDING,
+        Event::DateChange { .. } => date_change::takes(order),
     }
 }
 
@@ -245,12 +257,4 @@ pub fn is_next_day(today: u16, day: u16) -> Result<(), Answer> {
         u32::from(day) != u32::from(today) + 1,
         Answer::NotTheNextDay,
     )
-}
-
-fn refuse_if(met: bool, row: Answer) -> Result<(), Answer> {
-    if met {
-        Err(row)
-    } else {
-        Ok(())
-    }
 }

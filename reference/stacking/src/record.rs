@@ -69,7 +69,7 @@ fn part<const WIDTH: usize>(bytes: &[u8; RECORD_BYTES], place: Range<usize>) -> 
 /// A well-formed record.
 #[derive(Clone, Copy, Debug, PartialEq, Eq)]
 pub enum Record {
-    /// Kinds 1 to 9: a premise's own record.
+    /// Kinds 1 to 9 and 11: a premise's own record.
     OfPremise { premise: u64, entry: Entry },
     /// Kind 10.
     DayMark { day: u16 },
@@ -82,7 +82,7 @@ pub enum Entry {
     Create { since: u16, retailer: u32 },
     /// Kind 2.
     Retire,
-    /// Kinds 3 to 9.
+    /// Kinds 3 to 9 and 11.
     Order(OrderEntry),
 }
 
@@ -91,7 +91,7 @@ pub enum Entry {
 pub enum OrderEntry {
     /// Kind 3.
     New(NewOrder),
-    /// Kinds 4 to 9: something happens to the order with this reference.
+    /// Kinds 4 to 9 and 11: something happens to the order with this reference.
     Event { reference: u32, event: Event },
 }
 
@@ -125,6 +125,8 @@ pub enum Event {
     CancelAccepted,
     /// Kind 9, detail 2.
     CancelRejected,
+    /// Kind 11 (02, change 1).
+    DateChange { day: u16, counter: u32 },
 }
 
 /// The values a kind of record takes in each field, both ends included. A field
@@ -149,6 +151,9 @@ const ANY_DAY: (u16, u16) = (0, LAST_DAY);
 const ANY_REFERENCE: (u32, u32) = (1, u32::MAX);
 const ANY_RETAILER: (u32, u32) = (1, LARGEST_RETAILER);
 
+/// A date change has its counter where other records have a retailer.
+const ANY_COUNTER: (u32, u32) = (1, u32::MAX);
+
 /// A record about a premise.
 const PREMISE: Ranges = Ranges {
     premise: (1, u64::MAX),
@@ -161,8 +166,8 @@ const ORDER: Ranges = Ranges {
     ..PREMISE
 };
 
-/// The kinds of record 1 to 10, in that order.
-const RANGES: [Ranges; 10] = [
+/// The kinds of record 1 to 11, in that order.
+const RANGES: [Ranges; 11] = [
     // create
     Ranges {
         day: ANY_DAY,
@@ -206,6 +211,12 @@ const RANGES: [Ranges; 10] = [
     Ranges {
         day: ANY_DAY,
         ..UNUSED
+    },
+    // date change
+    Ranges {
+        day: ANY_DAY,
+        retailer: ANY_COUNTER,
+        ..ORDER
     },
 ];
 
@@ -252,7 +263,11 @@ pub fn decode(bytes: &[u8]) -> Option<Record> {
         }),
         9 if fields.detail == CANCEL_ACCEPTED => on_order(Event::CancelAccepted),
         9 => on_order(Event::CancelRejected),
-        _ => return Some(Record::DayMark { day: fields.day }),
+        10 => return Some(Record::DayMark { day: fields.day }),
+        _ => on_order(Event::DateChange {
+            day: fields.day,
+            counter: fields.retailer,
+        }),
     };
     Some(Record::OfPremise {
         premise: fields.premise,
@@ -297,7 +312,7 @@ impl Entry {
         Entry::Order(OrderEntry::New(new))
     }
 
-    /// Kinds 4 to 9.
+    /// Kinds 4 to 9 and 11.
     pub fn event(reference: u32, event: Event) -> Entry {
         Entry::Order(OrderEntry::Event { reference, event })
     }
@@ -332,7 +347,8 @@ impl Entry {
 }
 
 impl Event {
-    /// The event's fields, premise and reference left open.
+    /// The event's fields, premise and reference left open. A counter stands in
+    /// the retailer's place.
     fn fields(&self) -> Fields {
         let (kind, detail, day, retailer) = match *self {
             Event::Scheduled { day } => (4, 0, day, 0),
@@ -342,6 +358,7 @@ impl Event {
             Event::Cancel { retailer } => (8, 0, 0, retailer),
             Event::CancelAccepted => (9, CANCEL_ACCEPTED, 0, 0),
             Event::CancelRejected => (9, CANCEL_REJECTED, 0, 0),
+            Event::DateChange { day, counter } => (11, 0, day, counter),
         };
         Fields {
             kind,

@@ -38,7 +38,7 @@ impl OnePremise {
         }
     }
 
-    /// One own record of the premise, or one day mark: rows 3 to 5, 7 to 15
+    /// One own record of the premise, or one day mark: rows 3 to 5, 7 to 17
     /// and 26, then the steps.
     pub fn step(&mut self, calendar: &[u8], record: &[u8]) -> Outcome {
         let mut room = [0; NOTICE_ROOM];

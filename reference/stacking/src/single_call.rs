@@ -59,7 +59,7 @@ fn write_file(file_place: usize, file: &File, out: &mut dyn Write) -> io::Result
         if place < usize::from(file.order_count) || *order != Order::EMPTY {
             writeln!(
                 out,
-                "o {file_place} {place} {} {} {} {} {} {} {} {} {}",
+                "o {file_place} {place} {} {} {} {} {} {} {} {} {} {}",
                 order.reference,
                 order.kind,
                 order.retailer,
@@ -68,7 +68,8 @@ fn write_file(file_place: usize, file: &File, out: &mut dyn Write) -> io::Result
                 order.status,
                 order.waited.0,
                 order.cancel_pending_for.0,
-                order.told
+                order.told,
+                order.counter
             )?;
         }
     }
@@ -111,6 +112,7 @@ fn push_order(bytes: &mut Vec<u8>, order: &Order) {
     bytes.push(order.waited.0);
     bytes.push(order.cancel_pending_for.0);
     bytes.push(order.told);
+    bytes.extend(order.counter.to_le_bytes());
 }
 
 /// The calls that stand one after another in these bytes.
@@ -218,6 +220,7 @@ impl<'a> Left<'a> {
             waited: BusinessDays(self.byte()?),
             cancel_pending_for: CalendarDays(self.byte()?),
             told: self.byte()?,
+            counter: self.four()?,
         })
     }
 }

@@ -3,6 +3,7 @@
 //! rules shows in one of them or on a stored tape; `reference/wrong` tries that.
 
 mod clock;
+mod date_changes;
 mod days;
 mod evaluation;
 mod records;
@@ -28,6 +29,7 @@ pub fn all() -> Vec<Stored> {
     let topics = [
         days::calls(),
         records::calls(),
+        date_changes::calls(),
         clock::calls(),
         evaluation::calls(),
         rows::calls(),
@@ -132,6 +134,7 @@ fn order(reference: u32, kind: u8, status: u8, scheduled_day: u16) -> Order {
         waited: BusinessDays(2),
         cancel_pending_for: CalendarDays(0),
         told: 0,
+        counter: 0,
     }
 }
 
@@ -186,6 +189,11 @@ fn pending_for(days: u8, order: Order) -> Order {
         cancel_pending_for: CalendarDays(days),
         ..order
     }
+}
+
+/// The order keeps this counter, that of its last date change.
+fn dated(counter: u32, order: Order) -> Order {
+    Order { counter, ..order }
 }
 
 fn by(retailer: u32, order: Order) -> Order {
@@ -257,4 +265,8 @@ fn accept(reference: u32) -> [u8; 24] {
 
 fn reject(reference: u32) -> [u8; 24] {
     on_order(reference, Event::CancelRejected)
+}
+
+fn date_change(reference: u32, day: u16, counter: u32) -> [u8; 24] {
+    on_order(reference, Event::DateChange { day, counter })
 }

@@ -77,6 +77,7 @@ The records, their named fields in any order:
   reply reject           premise N reference N
   day N                  the day mark
   days N..N              a day mark for each of them
+  date-change            premise N reference N day N counter N
   raw 0a ff ...          24 bytes in hexadecimal; the last record may be shorter
 ";
 

@@ -33,6 +33,11 @@ pub(crate) const RETAILER: Field = Field {
     width: 4,
 };
 
+pub(crate) const COUNTER: Field = Field {
+    name: "counter",
+    ..RETAILER
+};
+
 impl Field {
     /// The biggest number that fits the field.
     pub fn most(self) -> u64 {
@@ -71,7 +76,7 @@ pub(crate) enum Fields {
 /// One form of a record.
 #[derive(Debug, PartialEq, Eq)]
 pub(crate) struct Form {
-    /// What document 01 calls it.
+    /// What the documents call it.
     pub name: &'static str,
     pub words: &'static [&'static str],
     pub kind: u8,
@@ -102,7 +107,7 @@ const ORDER: &[Field] = &[PREMISE, REFERENCE, DAY, RETAILER];
 const DATED: &[Field] = &[PREMISE, REFERENCE, DAY];
 const NAMED: &[Field] = &[PREMISE, REFERENCE];
 
-/// All forms, in document 01's order of record kinds. No two share kind and
+/// All forms, in the order of the record kinds. No two share kind and
 /// detail, and no form's words begin another's.
 pub(crate) const FORMS: &[Form] = &[
     form("create", &["create"], 1, 0, &[PREMISE, DAY, RETAILER]),
@@ -143,6 +148,13 @@ pub(crate) const FORMS: &[Form] = &[
         detail: 0,
         fields: Fields::Bare(DAY),
     },
+    form(
+        "date change",
+        &["date-change"],
+        11,
+        0,
+        &[PREMISE, REFERENCE, DAY, COUNTER],
+    ),
 ];
 
 #[cfg(test)]
@@ -169,7 +181,7 @@ mod tests {
 
     #[test]
     fn a_field_holds_every_number_up_to_its_most() {
-        for field in [DAY, REFERENCE, PREMISE, RETAILER] {
+        for field in [DAY, REFERENCE, PREMISE, RETAILER, COUNTER] {
             for number in [0, 1, field.most() / 3, field.most()] {
                 let mut record = [0; RECORD_BYTES];
                 field.put(&mut record, number);

@@ -1,6 +1,6 @@
 //! The rows of document 01's table and document 02's in words. A new row is one more here.
 
-use crate::form::{Field, DAY, PREMISE, REFERENCE, RETAILER};
+use crate::form::{Field, COUNTER, DAY, PREMISE, REFERENCE, RETAILER};
 
 /// A row of the table: its number, what it holds against a record, and which of
 /// the record's fields that is about, beside those that say which order it is.
@@ -19,7 +19,7 @@ const fn row(number: u64, words: &'static str, about: &'static [Field]) -> Row {
 }
 
 /// Row 3 can be about any field.
-const ANY: &[Field] = &[DAY, REFERENCE, PREMISE, RETAILER];
+const ANY: &[Field] = &[DAY, REFERENCE, PREMISE, RETAILER, COUNTER];
 
 #[rustfmt::skip]
 pub(crate) const ROWS: &[Row] = &[
@@ -38,6 +38,8 @@ pub(crate) const ROWS: &[Row] = &[
     row(13, "there is no such reference, or on a cancel the order is another retailer's", &[RETAILER]),
     row(14, "its status or kind does not take this record", &[]),
     row(15, "the day is not the one after today", &[DAY]),
+    row(16, "its counter is not above the one of the order's last date change", &[COUNTER]),
+    row(17, "the order is Scheduled and in window", &[]),
     row(26, "its retailer has 4 or more open orders at the premise", &[RETAILER]),
 ];
 

@@ -7,15 +7,15 @@
 //! written whether it is used or not:
 //!
 //! ```text
-//! book      9,667 bytes
+//! book     11,715 bytes
 //!   T                    2
 //!   number of files      1
-//!   64 files, each     151 bytes
+//!   64 files, each     183 bytes
 //!     P                  8
 //!     R                  4
 //!     S                  2
 //!     number of orders   1
-//!     8 orders, each    17 bytes
+//!     8 orders, each    21 bytes
 //!       F                4
 //!       K                1
 //!       Q                4
@@ -25,6 +25,7 @@
 //!       N                1
 //!       W                1
 //!       told             1
+//!       counter          4
 //! calendar length        4     then that many bytes
 //! record length          4     then that many bytes
 //! buffer length          4     no bytes: every byte of the buffer is 165
@@ -41,7 +42,8 @@
 //!                                          no longer 165
 //! b T files
 //! f place P R S orders                     each file place
-//! o place place F K Q RD SD status N W told   each order place of a file place
+//! o place place F K Q RD SD status N W told counter
+//!                                          each order place of a file place
 //! ```
 //!
 //! Places count from 0, calls from 1. The book is the one afterwards. A place of

@@ -68,6 +68,7 @@ fn well_kept_order(random: &mut Random, today: u16, status: u8) -> Order {
             _ => 0,
         }),
         told: random.below(2) as u8,
+        counter: random.pick(&[0, 0, 1, 5, u32::MAX - 1, u32::MAX]),
     }
 }
 
@@ -124,7 +125,7 @@ fn swap_files(random: &mut Random, book: &mut Book, file: usize) {
 }
 
 fn damage_order(random: &mut Random, order: &mut Order) {
-    match random.below(9) {
+    match random.below(10) {
         0 => order.reference = random.pick(&[0, 1, 2, u32::MAX]),
         1 => order.retailer = odd_retailer(random),
         2 => order.requested_day = odd_day(random),
@@ -133,7 +134,8 @@ fn damage_order(random: &mut Random, order: &mut Order) {
         5 => order.status = random.pick(&[0, 1, 2, 3, 4, 5, 6, 7, 8, 255]),
         6 => order.waited.0 = random.pick(&[0, 21, 22, 255]),
         7 => order.cancel_pending_for.0 = random.pick(&[1, 6, 7, 7, 255]),
-        _ => order.told = random.pick(&[0, 1, 2, 255]),
+        8 => order.told = random.pick(&[0, 1, 2, 255]),
+        _ => order.counter = random.pick(&[0, 1, u32::MAX]),
     }
 }
 

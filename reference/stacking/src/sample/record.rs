@@ -73,7 +73,7 @@ impl RecordMaker {
         }
     }
 
-    /// A record of kinds 1 to 9, a day mark for a wrong day, or no record at all.
+    /// A record of kinds 1 to 9 or 11, a day mark for a wrong day, or no record at all.
     pub fn make(&mut self, random: &mut Random, book: &Book) -> [u8; RECORD_BYTES] {
         match random.weighted(&self.weights) {
             Sort::Malformed => self.malformed(random, book),
@@ -260,6 +260,7 @@ fn requested_day(random: &mut Random, today: u16, file: Option<&File>) -> u16 {
 fn day_to_schedule(random: &mut Random, today: u16, file: &File, order: &Order) -> u16 {
     match random.below(10) {
         0 => random.below(usize::from(LAST_DAY) + 1) as u16,
+        1..=6 if order.told == 1 => (today + random.from_to(10, 60) as u16).min(LAST_DAY),
         1..=2 => order.requested_day,
         3..=6 => {
             scheduled_day_of_another(random, Some(file)).unwrap_or_else(|| day_near(random, today))
@@ -280,19 +281,30 @@ fn day_to_read(random: &mut Random, today: u16, file: &File, order: &Order) -> u
 
 /// An event that the order's status takes, if any does.
 fn fitting_event(random: &mut Random, today: u16, file: &File, order: &Order) -> Event {
+    let is_move = matches!(order.kind, kind::MOVE_IN | kind::MOVE_OUT);
+    let is_far = order.scheduled_day > today.saturating_add(9);
     let number = match order.status {
-        status::IN_REVIEW if order.kind == kind::MOVE_IN => random.pick(&[4, 4, 4, 5, 5, 5, 6, 8]),
+        // a date that has moved moves again
+        status::IN_REVIEW if order.counter > 0 => random.pick(&[4, 4, 4, 6, 8, 11, 11]),
+        status::IN_REVIEW if order.kind == kind::MOVE_IN => {
+            random.pick(&[4, 4, 4, 5, 5, 5, 6, 8, 11, 11])
+        }
+        status::IN_REVIEW if is_move => random.pick(&[4, 4, 4, 4, 4, 6, 8, 11, 11]),
         status::IN_REVIEW => random.pick(&[4, 4, 4, 4, 4, 6, 8]),
         status::PERMIT_PENDING => random.pick(&[4, 4, 6, 7, 7, 8]),
+        status::SCHEDULED if is_move && is_far => random.pick(&[6, 7, 8, 11, 11, 11]),
+        status::SCHEDULED if is_move => random.pick(&[6, 7, 7, 8, 8, 8, 11]),
         status::SCHEDULED => random.pick(&[6, 7, 7, 8, 8]),
+        // told, and then put off: only so is a told order out of window
+        status::CANCEL_PENDING if is_move && order.told == 1 => random.pick(&[4, 4, 4, 9, 10]),
         status::CANCEL_PENDING => random.pick(&[4, 6, 9, 9, 10, 10, 10]),
-        _ => random.pick(&[4, 5, 6, 7, 8, 9, 10]),
+        _ => random.pick(&[4, 5, 6, 7, 8, 9, 10, 11]),
     };
     event_number(number, random, today, file, order)
 }
 
 fn any_event(random: &mut Random, today: u16, file: &File, order: &Order) -> Event {
-    let number = random.pick(&[4, 5, 6, 7, 8, 9, 10]);
+    let number = random.pick(&[4, 5, 6, 7, 8, 9, 10, 11]);
     event_number(number, random, today, file, order)
 }
 
@@ -311,8 +323,25 @@ fn event_number(number: u8, random: &mut Random, today: u16, file: &File, order:
             retailer: order.retailer,
         },
         9 => Event::CancelAccepted,
-        _ => Event::CancelRejected,
+        10 => Event::CancelRejected,
+        _ => Event::DateChange {
+            day: day_to_schedule(random, today, file, order),
+            counter: next_counter(random, order),
+        },
     }
+}
+
+/// Mostly one above the kept one, often the same again, sometimes a lower one.
+fn next_counter(random: &mut Random, order: &Order) -> u32 {
+    let kept = order.counter;
+    let counter = match random.below(24) {
+        0 => random.pick(&[u32::MAX - 1, u32::MAX]),
+        1..=2 => kept.saturating_add(1_000),
+        3..=8 => kept,
+        9..=10 => random.pick(&[1, kept / 2, kept.saturating_sub(1)]),
+        _ => kept.saturating_add(1),
+    };
+    counter.max(1)
 }
 
 fn wrong_mark(random: &mut Random, today: u16) -> Record {
@@ -325,7 +354,7 @@ fn wrong_mark(random: &mut Random, today: u16) -> Record {
 /// One field set to what hardly any kind of record takes there.
 fn spoiled(random: &mut Random, mut fields: Fields) -> Fields {
     match random.below(7) {
-        0 => fields.kind = random.pick(&[0, 11, 255]),
+        0 => fields.kind = random.pick(&[0, 12, 255]),
         1 => fields.detail = random.pick(&[0, 3, 6, 255]),
         2 => fields.day = random.pick(&[NO_DAY, u16::MAX, 1]),
         3 => fields.reference = random.pick(&[0, 1]),

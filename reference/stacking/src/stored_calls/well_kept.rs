@@ -62,6 +62,7 @@ fn kept() -> Vec<Stored> {
         status: status::SCHEDULED,
         waited: BusinessDays(21),
         told: 1,
+        counter: u32::MAX,
         ..Order::EMPTY
     };
     let smallest = Order {
@@ -95,6 +96,12 @@ fn kept() -> Vec<Stored> {
         on_book("well kept at the upper limits", last, mark(4_095)),
         on_book("well kept at the lower limits", first, mark(1)),
         on_book("well kept without files", book(0, &[]), mark(1)),
+        with_order("well kept: a closed order's counter", 6, |order| {
+            order.counter = 1
+        }),
+        with_order("well kept: a Permit Pending order's counter", 2, |order| {
+            order.counter = u32::MAX
+        }),
         with_order("well kept: W 6 in Cancel Pending", 4, |order| {
             order.cancel_pending_for.0 = 6
         }),
@@ -269,6 +276,9 @@ fn unused() -> Vec<Stored> {
             order.cancel_pending_for.0 = 1
         }),
         place("row 2: told in an unused place", |order| order.told = 1),
+        place("row 2: a counter in an unused place", |order| {
+            order.counter = 1 << 31
+        }),
         unused_file("row 2: P in an unused file", |file| file.premise = u64::MAX),
         unused_file("row 2: R in an unused file", |file| file.retailer = 1),
         unused_file("row 2: S in an unused file", |file| file.since = 1),

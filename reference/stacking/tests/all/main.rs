@@ -1,5 +1,6 @@
 //! The tests of the second program, in one program: a topic a module.
 
+mod date_change;
 mod demand_three;
 mod programs;
 mod record_call;

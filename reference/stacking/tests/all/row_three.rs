@@ -13,7 +13,7 @@ struct Use {
 }
 
 /// In the order of the paper's list, with its fields in brackets.
-const USED: [Use; 10] = [
+const USED: [Use; 11] = [
     uses(1, &[0], "day premise retailer"),
     uses(2, &[0], "premise"),
     uses(3, &[1, 2, 3, 4, 5], "day reference premise retailer"),
@@ -24,6 +24,7 @@ const USED: [Use; 10] = [
     uses(8, &[0], "reference premise retailer"),
     uses(9, &[1, 2], "reference premise"),
     uses(10, &[0], "day"),
+    uses(11, &[0], "day reference premise counter"),
 ];
 
 const fn uses(kind: u8, details: &'static [u8], fields: &'static str) -> Use {
@@ -58,7 +59,8 @@ fn samples() -> Vec<Fields> {
             fields.day = if is_used("day", &fields) { 9 } else { 0 };
             fields.reference = u32::from(is_used("reference", &fields));
             fields.premise = PREMISE * u64::from(is_used("premise", &fields));
-            fields.retailer = u32::from(is_used("retailer", &fields));
+            fields.retailer =
+                u32::from(is_used("retailer", &fields) || is_used("counter", &fields));
             samples.push(fields);
         }
     }
@@ -75,8 +77,8 @@ fn the_samples_are_well_formed() {
 }
 
 #[test]
-fn kinds_other_than_1_to_10() {
-    for kind in (0..=0).chain(11..=255) {
+fn kinds_other_than_1_to_11() {
+    for kind in (0..=0).chain(12..=255) {
         for fields in samples() {
             assert!(!well_formed(Fields { kind, ..fields }));
         }
@@ -128,15 +130,17 @@ fn references_and_premises() {
     }
 }
 
-/// A create takes retailer 0 too.
+/// A create takes retailer 0 too. A counter stands in the retailer's place and
+/// may be larger than one.
 #[test]
-fn retailers() {
+fn retailers_and_counters() {
     for fields in samples() {
         let used = is_used("retailer", &fields);
+        let counts = is_used("counter", &fields);
         for retailer in [0, 1, LARGEST, LARGEST + 1, u32::MAX] {
             let taken = match retailer {
-                0 => fields.kind == 1 || !used,
-                _ => used && retailer <= LARGEST,
+                0 => fields.kind == 1 || !(used || counts),
+                _ => counts || used && retailer <= LARGEST,
             };
             assert_eq!(well_formed(Fields { retailer, ..fields }), taken);
         }

@@ -227,6 +227,16 @@ fn an_order_has_its_fields_in_range() {
 }
 
 #[test]
+fn a_counter_is_any_number() {
+    for status in 1..=6 {
+        for counter in [0, 1, 1_000_000_000, u32::MAX] {
+            let changed = with_order(status, |held| held.counter = counter);
+            assert!(!answered_2(&changed));
+        }
+    }
+}
+
+#[test]
 fn the_scheduled_day_goes_with_the_status() {
     // by status: may it be a day, may it be none
     for (status, a_day, none) in [
@@ -285,7 +295,7 @@ fn the_wait_in_cancel_pending() {
 /// A change to one field of an order.
 type OrderChange = fn(&mut Order);
 
-const ORDER_FIELDS: [OrderChange; 9] = [
+const ORDER_FIELDS: [OrderChange; 10] = [
     |held| held.reference = 1,
     |held| held.retailer = 1,
     |held| held.requested_day = 1,
@@ -295,6 +305,7 @@ const ORDER_FIELDS: [OrderChange; 9] = [
     |held| held.waited = BusinessDays(1),
     |held| held.cancel_pending_for = CalendarDays(1),
     |held| held.told = 1,
+    |held| held.counter = 1,
 ];
 
 #[test]

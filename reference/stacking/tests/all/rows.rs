@@ -95,6 +95,14 @@ fn eight_open_one_scheduled() -> Vec<Order> {
 }
 
 /// A call for each number from 3 on, and accepted ones of every kind of record.
+/// A move in, Scheduled, with a date change of counter 5 behind it.
+fn dated_scheduled(day: u16) -> [Order; 1] {
+    [Order {
+        counter: 5,
+        ..order(1, 1, 310, day, 3)
+    }]
+}
+
 fn cases() -> Vec<Case> {
     let mark_case = |answer, day| Case {
         record: mark(day).to_vec(),
@@ -138,6 +146,12 @@ fn cases() -> Vec<Case> {
         Case::new(13, &review, cancel_by(HOLDER, 1)),
         Case::new(14, &closed, scheduled(1, 310)),
         mark_case(15, 302),
+        Case::new(0, &review, date_change(1, 391, 1)),
+        Case::new(4, &[], date_change(1, 310, 1)).for_premise_not_held(),
+        Case::new(13, &review, date_change(2, 310, 1)),
+        Case::new(14, &closed, date_change(1, 310, 1)),
+        Case::new(16, &dated_scheduled(310), date_change(1, 320, 5)),
+        Case::new(17, &dated_scheduled(302), date_change(1, 320, 6)),
     ]
 }
 
@@ -147,7 +161,7 @@ fn each_row_on_its_own() {
     for case in &cases {
         assert_eq!(case.call(), case.answer, "{:?}", case.record);
     }
-    for number in (3..=15).chain([26]) {
+    for number in (3..=17).chain([26]) {
         assert!(cases.iter().any(|case| case.answer == number));
     }
 }
@@ -172,7 +186,7 @@ fn row_2_comes_before_all_but_row_1() {
 }
 
 #[test]
-fn row_3_comes_before_rows_4_to_15_and_26() {
+fn row_3_comes_before_rows_4_to_17_and_26() {
     for mut case in cases() {
         case.record[23] = 1;
         assert_eq!(case.call(), 3);
@@ -190,6 +204,7 @@ fn row_4_comes_before_rows_9_10_and_13() {
         Case::new(4, &[], new_order(1, 391, 1)),
         Case::new(4, &[], new_order(3, 0, 1)).on_calendar(vec![]),
         Case::new(4, &[], scheduled(9, 310)),
+        Case::new(4, &[], date_change(9, 310, 1)),
     ] {
         assert_eq!(case.for_premise_not_held().call(), 4);
     }
@@ -338,7 +353,7 @@ fn row_11_is_the_table() {
 
 #[test]
 fn row_14_for_every_kind_of_record_and_status() {
-    let taken: [(Entry, &[u8]); 7] = [
+    let taken: [(Entry, &[u8]); 8] = [
         (scheduled(1, 310), &[1, 2, 4]),
         (permit(1), &[1]),
         (unexecutable(1), &[1, 2, 3, 4]),
@@ -346,6 +361,7 @@ fn row_14_for_every_kind_of_record_and_status() {
         (cancel(1), &[1, 2, 3]),
         (accept(1), &[4]),
         (reject(1), &[4]),
+        (date_change(1, 320, 1), &[1, 3]),
     ];
     for (entry, statuses) in taken {
         for status in 1..=7 {
@@ -370,6 +386,26 @@ fn row_14_permits_are_for_move_ins() {
         let orders = [order(1, kind, 310, NONE, 1)];
         assert_eq!(Case::new(14, &orders, permit(1)).call(), 14);
     }
+}
+
+#[test]
+fn row_14_date_changes_are_for_move_ins_and_move_outs() {
+    for (kind, answer) in [(1, 0), (2, 0), (3, 14), (4, 14), (5, 14)] {
+        for (status, day) in [(1, NONE), (3, 310)] {
+            let orders = [order(1, kind, 310, day, status)];
+            let case = Case::new(answer, &orders, date_change(1, 320, 1));
+            assert_eq!(case.call(), answer, "{kind} {status}");
+        }
+    }
+}
+
+#[test]
+fn row_14_comes_before_row_16_and_row_16_before_row_17() {
+    let mut pending = dated_scheduled(302);
+    pending[0].status = 4;
+    assert_eq!(Case::new(14, &pending, date_change(1, 320, 5)).call(), 14);
+    let near = dated_scheduled(302);
+    assert_eq!(Case::new(16, &near, date_change(1, 320, 5)).call(), 16);
 }
 
 #[test]

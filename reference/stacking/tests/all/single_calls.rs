@@ -105,7 +105,7 @@ fn random_calls() {
     }
     assert_eq!(
         Vec::from_iter(answers),
-        Vec::from_iter((0..=15).chain([26]))
+        Vec::from_iter((0..=17).chain([26]))
     );
 }
 
@@ -133,6 +133,6 @@ fn stored_calls_do_what_they_are_called() {
     }
     assert_eq!(
         Vec::from_iter(answers),
-        Vec::from_iter((0..=15).chain([26]))
+        Vec::from_iter((0..=17).chain([26]))
     );
 }

@@ -474,7 +474,7 @@ fn pass_4_tells_the_holder_once() {
     }
 }
 
-/// No tape shows it, but every accepted record of kinds 3 to 9 ends with the
+/// No tape shows it, but every accepted record of kinds 3 to 9 and 11 ends with the
 /// evaluation, also on a book that was handed in with something left to do.
 #[test]
 fn every_record_on_a_file_ends_with_its_evaluation() {
@@ -488,6 +488,8 @@ fn every_record_on_a_file_ends_with_its_evaluation() {
         (1, cancel(1)),
         (4, accept(1)),
         (4, reject(1)),
+        (1, date_change(1, 20, 1)),
+        (3, date_change(1, 20, 1)),
     ] {
         let day = match held_status {
             1 | 2 => NONE,

@@ -96,6 +96,10 @@ pub fn reject(reference: u32) -> Entry {
     Entry::event(reference, Event::CancelRejected)
 }
 
+pub fn date_change(reference: u32, day: u16, counter: u32) -> Entry {
+    Entry::event(reference, Event::DateChange { day, counter })
+}
+
 /// A notice as code, kind, day, reference, addressee.
 pub type Notice = (u8, u8, u16, u32, u32);
 
@@ -128,13 +132,22 @@ impl Desk {
     }
 
     pub fn with_calendar(start_day: u16, calendar: Vec<u8>) -> Desk {
+        Desk::created(start_day, calendar, create(0, HOLDER))
+    }
+
+    /// The same with another retailer, or none.
+    pub fn created_with(start_day: u16, retailer: u32) -> Desk {
+        Desk::created(start_day, business_days(), create(0, retailer))
+    }
+
+    fn created(start_day: u16, calendar: Vec<u8>, created: Entry) -> Desk {
         let mut desk = Desk {
             calendar,
             book: Book::fresh(start_day),
             rules: OnePremise::new(start_day),
             notices: Vec::new(),
         };
-        assert_eq!(desk.send(create(0, HOLDER)), 0);
+        assert_eq!(desk.send(created), 0);
         desk
     }
 

@@ -1,5 +1,5 @@
 //! What an output says in words: its lines stay, the words are those of the
-//! text and of document 01's table.
+//! text and of the documents' table.
 
 use tapetext::{encode_lined, explain, Lined};
 
@@ -156,6 +156,23 @@ fn each_row_has_its_words() {
             "day 9",
             15,
             "day mark, day 9: the day is not the one after today",
+        ),
+        (
+            "date-change premise 8 reference 1 day 40 counter 3",
+            16,
+            "date change, premise 8, reference 1, counter 3: its counter is not above the one of \
+             the order's last date change",
+        ),
+        (
+            "date-change premise 8 reference 1 day 40 counter 3",
+            17,
+            "date change, premise 8, reference 1: the order is Scheduled and in window",
+        ),
+        (
+            "date-change premise 8 reference 1 day 40 counter 0",
+            3,
+            "date change, premise 8, reference 1, day 40, counter 0: its length is not 24, its \
+             kind, detail or a field is out of range, or an unused field is not zero",
         ),
     ] {
         assert_eq!(said(line, answer), format!("line 2: {words}"));

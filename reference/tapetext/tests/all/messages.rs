@@ -20,7 +20,7 @@ fn an_unknown_record() {
         "switch premise 7",
         "\"switch premise 7\" is no record; expected one of: create, retire, move-in, move-out, \
          standard-switch, self-selected-switch, drop, scheduled, permit, unexecutable, read, \
-         cancel, reply, day, days, raw",
+         cancel, reply, day, date-change, days, raw",
     );
     assert_said(
         "reply maybe premise 7 reference 1",
@@ -85,6 +85,11 @@ fn numbers_that_do_not_fit_their_field() {
             "4294967295",
         ),
         ("days 1..65536", "day 65536", "65535"),
+        (
+            "date-change premise 1 reference 1 day 0 counter 4294967296",
+            "counter 4294967296",
+            "4294967295",
+        ),
     ] {
         assert_said(
             line,

@@ -11,10 +11,10 @@ use stacking::days::{is_business_day, switch_date};
 use stacking::evaluation;
 use stacking::file::File;
 use stacking::first_in;
-use stacking::notice::{NoticeWriter, NOTICE_BUFFER_BYTES};
+use stacking::notice::{NoticeWriter, NOTICE_BUFFER_BYTES, TDSP};
 use stacking::order::{kind, status, Order};
 use stacking::premise;
-use stacking::record::{decode, Entry, Event, NewOrder, OrderEntry, Record, RECORD_BYTES};
+use stacking::record::{decode, Entry, Event, Fields, NewOrder, OrderEntry, Record, RECORD_BYTES};
 use std::collections::HashSet;
 use std::io::{self, Write};
 
@@ -41,7 +41,7 @@ const PASSES: [&str; 4] = [
     "4 telling the retailer",
 ];
 
-const KINDS: [&str; 11] = [
+const KINDS: [&str; 12] = [
     "malformed or short",
     "1 create",
     "2 retire",
@@ -53,6 +53,7 @@ const KINDS: [&str; 11] = [
     "8 cancel",
     "9 cancel reply",
     "10 day mark",
+    "11 date change",
 ];
 
 /// A pass of the evaluation.
@@ -74,8 +75,10 @@ pub struct Coverage {
     /// Row 26: with a place left that no open order takes, with none.
     shares: [u64; 2],
     /// By kind of record: refused, accepted.
-    kinds: [[u64; 2]; 11],
-    codes: [u64; 8],
+    kinds: [[u64; 2]; KINDS.len()],
+    codes: [u64; 9],
+    /// Notices 9 to the premise's retailer, who was told.
+    new_dates_told: u64,
     branches: [u64; BRANCHES.len()],
     /// By pass: did not act, acted.
     passes: [[u64; 2]; 4],
@@ -123,7 +126,9 @@ impl Coverage {
         self.answers[place.expect("every answer is among them")] += 1;
         self.kinds[kind][usize::from(answer == Answer::Accepted)] += 1;
         for notice in notices.chunks_exact(RECORD_BYTES) {
-            self.codes[usize::from(notice[0]) - 1] += 1;
+            let notice = Fields::from_bytes(notice.try_into().expect("chunks are 24 bytes"));
+            self.codes[usize::from(notice.kind) - 1] += 1;
+            self.new_dates_told += u64::from(notice.kind == 9 && notice.retailer != TDSP);
         }
     }
 
@@ -258,6 +263,10 @@ impl Coverage {
         for (place, &count) in self.codes.iter().enumerate() {
             lines.push((format!("notice {}", place + 1), count));
         }
+        lines.push((
+            "notice 9 to a retailer that was told".into(),
+            self.new_dates_told,
+        ));
         for (name, &count) in BRANCHES.iter().zip(&self.branches) {
             lines.push((format!("clock: {name}"), count));
         }

@@ -1,0 +1,52 @@
+//! A tenant moves the date (02, change 1): record kind 11 on a held order.
+
+use crate::answer::{refuse_if, Answer};
+use crate::clock::first_wait;
+use crate::days::{in_window, NO_DAY};
+use crate::file::{File, DE_ENERGIZED};
+use crate::notice::{Code, NoticeWriter, TDSP};
+use crate::order::{kind, status, Order};
+
+/// Row 14: only a move in or a move out, In Review or Scheduled, takes one.
+pub fn takes(order: &Order) -> bool {
+    matches!(order.kind, kind::MOVE_IN | kind::MOVE_OUT)
+        && matches!(order.status, status::IN_REVIEW | status::SCHEDULED)
+}
+
+/// Row 16: an iteration that came before, or has come already. Row 17: an order
+/// that is about to be carried out.
+pub fn may_change(order: &Order, calendar: &[u8], today: u16, counter: u32) -> Result<(), Answer> {
+    refuse_if(counter <= order.counter, Answer::CounterNotAbove)?;
+    refuse_if(
+        order.is_scheduled() && in_window(calendar, today, order.scheduled_day),
+        Answer::DateChangeInWindow,
+    )
+}
+
+/// The order starts anew for the day given, and keeps the counter given with it.
+/// A retailer that was told of a move in hears of its new date, and will be told
+/// again.
+pub fn change(
+    file: &mut File,
+    place: usize,
+    calendar: &[u8],
+    today: u16,
+    (day, counter): (u16, u32),
+    notices: &mut NoticeWriter,
+) {
+    let order = &mut file.orders[place];
+    let was_told = order.told == 1;
+    *order = Order {
+        requested_day: day,
+        scheduled_day: NO_DAY,
+        status: status::IN_REVIEW,
+        waited: first_wait(calendar, today),
+        told: 0,
+        counter,
+        ..*order
+    };
+    notices.write(Code::DateChange, file.premise, order, TDSP);
+    if order.kind == kind::MOVE_IN && was_told && file.retailer != DE_ENERGIZED {
+        notices.write(Code::DateChange, file.premise, order, file.retailer);
+    }
+}

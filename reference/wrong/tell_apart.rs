@@ -8,6 +8,7 @@
 mod answer;
 mod book;
 mod clock;
+mod date_change;
 mod days;
 mod evaluation;
 mod file;

@@ -31,22 +31,22 @@ pub fn change(
     place: usize,
     calendar: &[u8],
     today: u16,
-    (day, counter): (u16, u32),
+    (new_day, new_counter): (u16, u32),
     notices: &mut NoticeWriter,
 ) {
-    let order = &mut file.orders[place];
-    let was_told = order.told == 1;
-    *order = Order {
-        requested_day: day,
+    let before = file.orders[place];
+    let order = Order {
+        requested_day: new_day,
         scheduled_day: NO_DAY,
         status: status::IN_REVIEW,
         waited: first_wait(calendar, today),
         told: 0,
-        counter,
-        ..*order
+        counter: new_counter,
+        ..before
     };
-    notices.write(Code::DateChange, file.premise, order, TDSP);
-    if order.kind == kind::MOVE_IN && was_told && file.retailer != DE_ENERGIZED {
-        notices.write(Code::DateChange, file.premise, order, file.retailer);
+    file.orders[place] = order;
+    notices.write(Code::DateChange, file.premise, &order, TDSP);
+    if order.kind == kind::MOVE_IN && before.told == 1 && file.retailer != DE_ENERGIZED {
+        notices.write(Code::DateChange, file.premise, &order, file.retailer);
     }
 }

@@ -1,5 +1,5 @@
 -- `wait_begun` meets its contract: whether today is a business day picks the case of `waitBegun`. Assumes nothing.
-use mathlib.Core.Path.{_≡_, sym, ap, _∙_}
+use mathlib.Core.Path.{sym, ap, _∙_}
 use mathlib.Core.Bool.{Bool, cond}
 use borrow.Author.Needs.{needs}
 use Rattle.premise.specs.Orders.{businessDays}

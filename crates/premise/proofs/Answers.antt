@@ -13,7 +13,7 @@ use Rattle.records.specs.Records.{kindCreate, kindRetire, kindDayMark}
 use Rattle.premise.specs.declared.File.{File}
 use Rattle.premise.specs.declared.Answer.{Answer}
 use Rattle.premise.specs.declared.Answer.the-variants.{Accepted, ShortBuffer, NotWellKept, MalformedRecord, NoSuchPremise}
-use Rattle.premise.specs.declared.Answer.the-variants.{PremiseHeld, BookFull, OrderOpen, ReferenceHeld, DayOutOfRange, NoSwitchDate}
+use Rattle.premise.specs.declared.Answer.the-variants.{OtherAgreement, PremiseHeld, BookFull, OrderOpen, ReferenceHeld, DayOutOfRange, NoSwitchDate}
 use Rattle.premise.specs.declared.Answer.the-variants.{NotFirstIn, RetailerShareFull, StackFull, NoSuchOrder, StatusNotTaken}
 use Rattle.premise.specs.declared.Answer.the-variants.{CounterNotAbove, OrderInWindow, NotNextDay}
 use Rattle.premise.specs.Steps.{is}
@@ -62,6 +62,7 @@ decided ShortBuffer done s h = refl
 decided NotWellKept done s h = refl
 decided MalformedRecord done s h = refl
 decided NoSuchPremise done s h = refl
+decided OtherAgreement done s h = refl
 decided PremiseHeld done s h = refl
 decided BookFull done s h = refl
 decided OrderOpen done s h = refl

@@ -7,6 +7,7 @@ use Rattle.premise.specs.Pieces.Document.{limits, reviews, permits, swit
 use Rattle.premise.specs.Pieces.Records.{created, ordered, scheduledOrPermitted, unexecuteds, readings, cancels, evaluations}
 use Rattle.premise.specs.Pieces.Clock.{reviewsEnd, permitsEnd, cancelsEnd}
 use Rattle.premise.specs.Pieces.Evaluation.{sameDay, drops, overtaken, losing}
+use Rattle.premise.specs.Pieces.Agreements.{agreements, agreementsTold, agreementsOnTape}
 use Rattle.premise.specs.Pieces.DateChange.{redates, redatedOnTape, redatesRefused}
 use Rattle.premise.specs.Pieces.Refusals.{firstIn, statuses, premises, dayLimits, stacks, shares}
 use Rattle.premise.specs.Pieces.Kept.{keptOrders, keptFiles, numbers}
@@ -142,6 +143,18 @@ redatesRefused-hold : Hold redatesRefused
 unfolding failed redatesRefused
 redatesRefused-hold = record { none = refl }
 
+agreements-hold : Hold agreements
+unfolding failed agreements
+agreements-hold = record { none = refl }
+
+agreementsTold-hold : Hold agreementsTold
+unfolding failed agreementsTold
+agreementsTold-hold = record { none = refl }
+
+agreementsOnTape-hold : Hold agreementsOnTape
+unfolding failed agreementsOnTape
+agreementsOnTape-hold = record { none = refl }
+
 keptOrders-hold : Hold keptOrders
 unfolding failed keptOrders
 keptOrders-hold = record { none = refl }
@@ -158,5 +171,5 @@ pub set-pieces : failed pieces ≡ []
 set-pieces = (limits-hold also reviews-hold also permits-hold also switches-hold also tape-hold also created-hold also ordered-hold also
     scheduledOrPermitted-hold also unexecuteds-hold also readings-hold also cancels-hold also evaluations-hold also reviewsEnd-hold also
     permitsEnd-hold also cancelsEnd-hold also sameDay-hold also drops-hold also overtaken-hold also losing-hold also firstIn-hold also
-    statuses-hold also premises-hold also dayLimits-hold also stacks-hold also shares-hold also redates-hold also redatedOnTape-hold also redatesRefused-hold also keptOrders-hold also keptFiles-hold also
+    statuses-hold also premises-hold also dayLimits-hold also stacks-hold also shares-hold also redates-hold also redatedOnTape-hold also redatesRefused-hold also agreements-hold also agreementsTold-hold also agreementsOnTape-hold also keptOrders-hold also keptFiles-hold also
     numbers-hold) .none

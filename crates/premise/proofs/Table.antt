@@ -16,7 +16,7 @@ use Rattle.records.specs.Records.{kindCreate, kindNewOrder}
 use Rattle.premise.specs.declared.File.{File}
 use Rattle.premise.specs.declared.Answer.{Answer}
 use Rattle.premise.specs.declared.Answer.the-variants.{Accepted, ShortBuffer, NotWellKept, MalformedRecord, NoSuchPremise}
-use Rattle.premise.specs.declared.Answer.the-variants.{PremiseHeld, BookFull, OrderOpen, ReferenceHeld, DayOutOfRange, NoSwitchDate}
+use Rattle.premise.specs.declared.Answer.the-variants.{OtherAgreement, PremiseHeld, BookFull, OrderOpen, ReferenceHeld, DayOutOfRange, NoSwitchDate}
 use Rattle.premise.specs.declared.Answer.the-variants.{NotFirstIn, RetailerShareFull, StackFull, NoSuchOrder, StatusNotTaken}
 use Rattle.premise.specs.declared.Answer.the-variants.{CounterNotAbove, OrderInWindow, NotNextDay}
 use Rattle.premise.specs.Orders.{mostOrders, mostOfOne, isOpen, openOf}
@@ -26,13 +26,13 @@ use Rattle.premise.proofs.Answers.{holds}
 use Rattle.premise.specs.Laws.{BookAnswers, RoomFrom26, rowNumbers}
 
 -- ---- the numbers of the answers
--- the answers in the order of their numbers, by which a number names its answer; 18 to 25 name none
+-- the answers in the order of their numbers, by which a number names its answer; 19 to 25 name none
 abbrev answers : List Answer
 answers =
     (Accepted ∷ ShortBuffer ∷ NotWellKept ∷ MalformedRecord ∷ NoSuchPremise ∷ PremiseHeld ∷ BookFull ∷ OrderOpen
     ∷ ReferenceHeld ∷ DayOutOfRange ∷ NoSwitchDate ∷ NotFirstIn ∷ StackFull ∷ NoSuchOrder ∷ StatusNotTaken ∷ NotNextDay
-    ∷ CounterNotAbove ∷ OrderInWindow ∷ [])
-    ++ replicate 8 Accepted ++ (RetailerShareFull ∷ [])
+    ∷ CounterNotAbove ∷ OrderInWindow ∷ OtherAgreement ∷ [])
+    ++ replicate 7 Accepted ++ (RetailerShareFull ∷ [])
 
 named-back : (answer : Answer) → getD answers (number answer) Accepted ≡ answer
 unfolding number
@@ -41,6 +41,7 @@ named-back ShortBuffer = refl
 named-back NotWellKept = refl
 named-back MalformedRecord = refl
 named-back NoSuchPremise = refl
+named-back OtherAgreement = refl
 named-back PremiseHeld = refl
 named-back BookFull = refl
 named-back OrderOpen = refl

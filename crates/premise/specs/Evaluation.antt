@@ -14,6 +14,7 @@ use Rattle.premise.specs.declared.File.{File}
 use Rattle.premise.specs.Orders.{permitPending, scheduled, cancelPending, hasStatus, hasKind, isSwitch, noRetailer, asCancelled}
 use Rattle.premise.specs.Orders.{withTold, held}
 use Rattle.premise.specs.Passes.{Change, Outcome, Effect, same, cancelling, notice, pass, andThen, onFile, codeLosing, codeCancel}
+use Rattle.premise.specs.Passes.{codeAgreementMoveIn}
 
 -- Pass 1. Status 3 or 4.
 abbrev pub isScheduledOrCancelPending : Order → Bool
@@ -63,8 +64,8 @@ dropOnSwitchDay near premise retailer os o =
     })
     (same o)
 
-abbrev pub dropsOnSwitchDays : (ℕ → Bool) → ℕ → ℕ → List Order → Outcome
-dropsOnSwitchDays near premise retailer os = pass (λ (i : ℕ). dropOnSwitchDay near premise retailer os) os
+abbrev pub dropsOnSwitchDays : (ℕ → Bool) → File → List Order → Outcome
+dropsOnSwitchDays near f os = pass (λ (i : ℕ). dropOnSwitchDay near (f .premise) (f .retailer) os) os
 
 -- Pass 3. A Scheduled move in with SD not after T, and an RD after a given one.
 abbrev pub overtakes : ℕ → ℕ → Order → Bool
@@ -81,32 +82,36 @@ permitOvertaken today premise os o = cond (isOvertaken today os o) (cancelling p
 abbrev pub permitsOvertaken : ℕ → ℕ → List Order → Outcome
 permitsOvertaken today premise os = pass (λ (i : ℕ). permitOvertaken today premise os) os
 
--- Pass 4. Scheduled, not a move out, in window, told 0: ..
-unfoldable pub isDue : (ℕ → Bool) → Order → Bool
-isDue near o = hasStatus scheduled o && not (hasKind moveOut o) && eqb (o .told) 0 && near (o .scheduled)
+-- Pass 4. Scheduled, not a move out, in window, told 0: .. Document 02, change 3: "In the fourth pass a move out that is Scheduled, in window
+-- and not told gets told 1 and notice 12 (814_22) to C, both only if C is not 0."
+unfoldable pub isDue : (ℕ → Bool) → ℕ → Order → Bool
+isDue near agreement o =
+    hasStatus scheduled o && (not (hasKind moveOut o) || not (eqb agreement noRetailer)) && eqb (o .told) 0 && near (o .scheduled)
 
--- .. told 1; notice 4 to R unless R is 0 or Q.
-unfoldable pub lossNotice : (ℕ → Bool) → ℕ → ℕ → Order → Change
-lossNotice near premise retailer o =
-    cond (isDue near o)
+-- .. told 1; notice 4 to R unless R is 0 or Q. A move out's goes to C.
+unfoldable pub lossNotice : (ℕ → Bool) → ℕ → ℕ → ℕ → Order → Change
+lossNotice near premise retailer agreement o =
+    cond (isDue near agreement o)
     (record {
       order = withTold 1 o;
-      notices = cond (eqb retailer noRetailer || eqb retailer (o .submitter)) [] (notice codeLosing premise retailer (withTold 1 o) ∷ []);
+      notices =
+          cond (hasKind moveOut o) (notice codeAgreementMoveIn premise agreement (withTold 1 o) ∷ [])
+          (cond (eqb retailer noRetailer || eqb retailer (o .submitter)) [] (notice codeLosing premise retailer (withTold 1 o) ∷ []));
     })
     (same o)
 
-abbrev pub lossNotices : (ℕ → Bool) → ℕ → ℕ → List Order → Outcome
-lossNotices near premise retailer os = pass (λ (i : ℕ). lossNotice near premise retailer) os
+abbrev pub lossNotices : (ℕ → Bool) → File → List Order → Outcome
+lossNotices near f os = pass (λ (i : ℕ). lossNotice near (f .premise) (f .retailer) (f .agreement)) os
 
--- the four passes on a file's orders
-unfoldable pub evaluation : (ℕ → Bool) → ℕ → ℕ → ℕ → List Order → Outcome
-evaluation near today premise retailer os =
-    andThen (andThen (andThen (sameDaySwitches near premise os) (dropsOnSwitchDays near premise retailer)) (permitsOvertaken today premise))
-    (lossNotices near premise retailer)
+-- the four passes on some orders of a file
+unfoldable pub evaluation : (ℕ → Bool) → ℕ → File → List Order → Outcome
+evaluation near today f os =
+    andThen (andThen (andThen (sameDaySwitches near (f .premise) os) (dropsOnSwitchDays near f)) (permitsOvertaken today (f .premise)))
+    (lossNotices near f)
 
 -- the same on the file
 abbrev pub evaluatedBy : (ℕ → Bool) → ℕ → File → Effect
-evaluatedBy near today f = onFile f (evaluation near today (f .premise) (f .retailer) (held f))
+evaluatedBy near today f = onFile f (evaluation near today f (held f))
 
 -- The evaluation of a file. In window: SD is a day, and at most two business days d have T ≤ d < SD.
 abbrev pub evaluated : List ℕ → ℕ → File → Effect

@@ -66,7 +66,7 @@ abbrev pub rowNumbers : List Row → List ℕ
 rowNumbers rs = map (λ (x : Row). number (x .answer)) rs
 
 abbrev pub PremiseRowNumbers : Type 0
-PremiseRowNumbers = (file : Option File) (r : Record) → rowNumbers (premiseRows file r) ≡ 4 ∷ 5 ∷ []
+PremiseRowNumbers = (file : Option File) (r : Record) → rowNumbers (premiseRows file r) ≡ 4 ∷ 18 ∷ 5 ∷ []
 
 abbrev pub OrderRowNumbers : Type 0
 OrderRowNumbers =
@@ -91,7 +91,7 @@ FullIsSix = (answer : Answer) → (number answer ≡ 6) ↔ (answer ≡ BookFull
 abbrev pub NoRow6 : Type 0
 NoRow6 = (calendar : List ℕ) (today : ℕ) (file : Option File) (r : Record) → firstRow (rows calendar today file r) ≡ BookFull → ⊥
 
--- rows 4 and 5 do not hold for a create of a premise without a file
+-- rows 4, 18 and 5 do not hold for a create of a premise without a file
 abbrev pub CreatePasses : Type 0
 CreatePasses = (r : Record) (more : List Row) → is kindCreate r ≡ true → firstRow (premiseRows none r ++ more) ≡ firstRow more
 

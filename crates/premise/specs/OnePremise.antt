@@ -8,7 +8,7 @@ use lib.Dec.{eqb}
 use Rattle.days.specs.Days.{lastDay}
 use Rattle.records.specs.declared.Record.{Record}
 use Rattle.records.specs.declared.Notice.{Notice}
-use Rattle.records.specs.Records.{kindCreate, kindRetire, kindNewOrder, kindDayMark}
+use Rattle.records.specs.Records.{kindCreate, kindRetire, kindNewOrder, kindDayMark, kindAgreement}
 use Rattle.premise.specs.declared.File.{File}
 use Rattle.premise.specs.declared.Answer.{Answer}
 use Rattle.premise.specs.declared.Answer.the-variants.{Accepted}
@@ -16,7 +16,7 @@ use Rattle.lists.specs.declared.Found.{Found}
 use Rattle.lists.specs.declared.Found.the-variants.{At, Nothing}
 use Rattle.premise.specs.Orders.{held}
 use Rattle.premise.specs.Passes.{Effect, onFile}
-use Rattle.premise.specs.Steps.{is, newFile, ordered, named, orderAt, changed}
+use Rattle.premise.specs.Steps.{is, newFile, ordered, named, orderAt, changed, agreed}
 use Rattle.premise.specs.Clock.{clock}
 use Rattle.premise.specs.Evaluation.{evaluated}
 use Rattle.premise.specs.Refusals.{number, rows, firstRow}
@@ -54,6 +54,10 @@ unfoldable pub stepped : List ℕ → ℕ → File → Record → Effect
 stepped calendar today f r =
     followed (cond (is kindNewOrder r) (ordered calendar today f r) (atPlace calendar today f r (named r (held f)))) (evaluated calendar today)
 
+-- .. and an agreement, which runs no evaluation
+abbrev pub recordDone : List ℕ → ℕ → File → Record → Effect
+recordDone calendar today f r = cond (is kindAgreement r) (agreed f r) (stepped calendar today f r)
+
 -- accepted, with the notices of its kind's steps
 abbrev pub accepted : List Notice → State → Given
 accepted notices after = record { answer = Accepted; notices = notices; state = after }
@@ -73,12 +77,12 @@ effectOnNone today r =
     (accepted [] (record { today = cond (is kindDayMark r) (r .day) today; file = none }))
 
 -- .. kind 2 takes it away, kinds 3 to 9 end with its evaluation, and a day mark sets T and then, if there is a file, does its clock and
--- evaluation. Document 02, change 1, of kind 11: "it ends with the file's evaluation".
+-- evaluation. Document 02, of kind 11: "it ends with the file's evaluation"; of kind 12: "the record runs no evaluation".
 abbrev pub effectOnFile : List ℕ → ℕ → File → Record → Given
 effectOnFile calendar today f r =
     cond (is kindRetire r) (accepted [] (record { today = today; file = none }))
     (cond (is kindDayMark r) (leaving (r .day) (marked calendar (r .day) f))
-    (leaving today (stepped calendar today f r)))
+    (leaving today (recordDone calendar today f r)))
 
 abbrev pub effectOn : List ℕ → ℕ → Option File → Record → Given
 effectOn calendar today none r = effectOnNone today r

@@ -185,12 +185,40 @@ places os = os ++ replicate (mostOrders - length os) blank
 
 -- a file with other orders
 abbrev pub withOrders : File → List Order → File
-withOrders f os = record { premise = f .premise; retailer = f .retailer; since = f .since; count = length os; orders = places os }
+withOrders f os =
+    record {
+      premise = f .premise;
+      retailer = f .retailer;
+      since = f .since;
+      agreement = f .agreement;
+      count = length os;
+      orders = places os;
+    }
 
 -- a file with another retailer, R, since a day, S
 abbrev pub withSupply : File → ℕ → ℕ → File
-withSupply f retailer since = record { premise = f .premise; retailer = retailer; since = since; count = f .count; orders = f .orders }
+withSupply f retailer since =
+    record {
+      premise = f .premise;
+      retailer = retailer;
+      since = since;
+      agreement = f .agreement;
+      count = f .count;
+      orders = f .orders;
+    }
+
+-- Document 02, change 3: "The file keeps C, 0 for none". A file with another C.
+abbrev pub withAgreement : File → ℕ → File
+withAgreement f agreement =
+    record {
+      premise = f .premise;
+      retailer = f .retailer;
+      since = f .since;
+      agreement = agreement;
+      count = f .count;
+      orders = f .orders;
+    }
 
 -- a file of which every field is zero: an unused place of the book
 abbrev pub blankFile : File
-blankFile = record { premise = 0; retailer = 0; since = 0; count = 0; orders = replicate mostOrders blank }
+blankFile = record { premise = 0; retailer = 0; since = 0; agreement = 0; count = 0; orders = replicate mostOrders blank }

@@ -10,7 +10,7 @@ use Rattle.premise.specs.declared.File.{File}
 use Rattle.premise.specs.Orders.{asCancelled, withOrders}
 
 -- The notice codes: 1 814_03, 2 814_24, 3 814_05 or 814_25, 4 814_06, 5 814_08, 6 814_28 permit, 7 814_28 unexecutable, 8 814_09 reject;
--- 9 814_12 of document 02, change 1.
+-- of document 02 9 814_12 (change 1), 10 814_18, 11 814_19 and 12 814_22 (change 3).
 abbrev pub codeOrder : ℕ
 codeOrder = 1
 
@@ -38,6 +38,15 @@ codeReject = 8
 abbrev pub codeDateChange : ℕ
 codeDateChange = 9
 
+abbrev pub codeAgreementRequest : ℕ
+codeAgreementRequest = 10
+
+abbrev pub codeAgreementResponse : ℕ
+codeAgreementResponse = 11
+
+abbrev pub codeAgreementMoveIn : ℕ
+codeAgreementMoveIn = 12
+
 -- A notice's day: RD in codes 1 and 2 and otherwise SD. Document 02, change 1: "In notice 9 the day is the new RD."
 abbrev pub dayIn : ℕ → Order → ℕ
 dayIn code o = cond (leb code codeMoveOut || eqb code codeDateChange) (o .requested) (o .scheduled)
@@ -46,6 +55,10 @@ dayIn code o = cond (leb code codeMoveOut || eqb code codeDateChange) (o .reques
 abbrev pub notice : ℕ → ℕ → ℕ → Order → Notice
 notice code premise addressee o =
     record { code = code; kind = o .kind; day = dayIn code o; reference = o .reference; premise = premise; addressee = addressee }
+
+-- Document 02, change 3, of notices 10 and 11: "In both notices detail, day and F are 0."
+abbrev pub noticeOfNoOrder : ℕ → ℕ → ℕ → Notice
+noticeOfNoOrder code premise addressee = record { code = code; kind = 0; day = 0; reference = 0; premise = premise; addressee = addressee }
 
 -- one order afterwards, and its notices
 pub record Change : Type 0 where

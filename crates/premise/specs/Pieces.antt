@@ -1,5 +1,6 @@
 -- Document 01, "Set pieces", and what document 02 adds: one list of cases, by topic. proofs/Pieces.antt proves that none of them fails.
 use mathlib.Core.List.{List, _++_}
+pub mod Agreements
 pub mod Clock
 pub mod DateChange
 pub mod Document
@@ -14,6 +15,7 @@ use Rattle.premise.specs.Pieces.Records.{created, ordered, scheduledOrPe
 use Rattle.premise.specs.Pieces.Clock.{reviewsEnd, permitsEnd, cancelsEnd}
 use Rattle.premise.specs.Pieces.Evaluation.{sameDay, drops, overtaken, losing}
 use Rattle.premise.specs.Pieces.DateChange.{redates, redatedOnTape, redatesRefused}
+use Rattle.premise.specs.Pieces.Agreements.{agreements, agreementsTold, agreementsOnTape}
 use Rattle.premise.specs.Pieces.Refusals.{firstIn, statuses, premises, dayLimits, stacks, shares}
 use Rattle.premise.specs.Pieces.Kept.{keptOrders, keptFiles, numbers}
 
@@ -25,4 +27,5 @@ pieces =
     ++ sameDay ++ drops ++ overtaken ++ losing
     ++ firstIn ++ statuses ++ premises ++ dayLimits ++ stacks ++ shares
     ++ redates ++ redatedOnTape ++ redatesRefused
+    ++ agreements ++ agreementsTold ++ agreementsOnTape
     ++ keptOrders ++ keptFiles ++ numbers

@@ -1,5 +1,5 @@
--- Document 01, "The book": the table of refusals. The rows of the one-premise rules, in its order: 4 and 5, which go by whether there is a
--- file, and 7 to 15, with 26 of document 02, change 12, between 11 and 12, and 16 and 17 of its change 1 after 14. Row 3 goes by the
+-- Document 01, "The book": the table of refusals. The rows of the one-premise rules, in its order: 4 and 5, which go by the file or none, with
+-- 18 of document 02, change 3, between them, and 7 to 15, with 26 of its change 12 between 11 and 12, and 16 and 17 of its change 1 after 14. Row 3 goes by the
 -- record's bytes alone (`reading`); rows 1, 2 and 6 are the book's.
 use Prim.Native.Nat.{ℕ, _+_}
 use mathlib.Core.List.{List, [], _∷_, _++_}
@@ -13,12 +13,12 @@ use Rattle.days.specs.Days.{noDay, switchDate}
 use Rattle.days.specs.Window.{windowWidth, inWindow}
 use Rattle.records.specs.declared.Record.{Record}
 use Rattle.records.specs.Records.{kindCreate, kindRetire, kindNewOrder, kindScheduled, kindCancel, kindReply, kindDayMark, moveIn, moveOut}
-use Rattle.records.specs.Records.{kindDateChange, standardSwitch, selfSelectedSwitch, counterOf}
+use Rattle.records.specs.Records.{kindDateChange, kindAgreement, standardSwitch, selfSelectedSwitch, delete, counterOf}
 use Rattle.premise.specs.declared.Order.{Order}
 use Rattle.premise.specs.declared.File.{File}
 use Rattle.premise.specs.declared.Answer.{Answer}
 use Rattle.premise.specs.declared.Answer.the-variants.{Accepted, ShortBuffer, NotWellKept, MalformedRecord, NoSuchPremise}
-use Rattle.premise.specs.declared.Answer.the-variants.{PremiseHeld, BookFull, OrderOpen, ReferenceHeld, DayOutOfRange, NoSwitchDate}
+use Rattle.premise.specs.declared.Answer.the-variants.{OtherAgreement, PremiseHeld, BookFull, OrderOpen, ReferenceHeld, DayOutOfRange, NoSwitchDate}
 use Rattle.premise.specs.declared.Answer.the-variants.{NotFirstIn, RetailerShareFull, StackFull, NoSuchOrder, StatusNotTaken}
 use Rattle.premise.specs.declared.Answer.the-variants.{CounterNotAbove, OrderInWindow, NotNextDay}
 use Rattle.premise.specs.Orders.{mostOrders, mostOfOne, scheduled, hasStatus, isOpen, openOf, held}
@@ -32,6 +32,7 @@ number ShortBuffer = 1
 number NotWellKept = 2
 number MalformedRecord = 3
 number NoSuchPremise = 4
+number OtherAgreement = 18
 number PremiseHeld = 5
 number BookFull = 6
 number OrderOpen = 7
@@ -83,10 +84,10 @@ outOfRange today requested = ltb (today + mostAhead) requested || ltb (requested
 abbrev pub limited : ℕ → Bool
 limited kind = eqb kind moveIn || eqb kind moveOut || eqb kind selfSelectedSwitch
 
--- On 2 to 9: the kinds that need a premise. On 4 to 9: those that name an order. Document 02, change 1, of kind 11: "Rows 4 and 13 apply to
--- it, row 9 doesn't".
+-- On 2 to 9: the kinds that need a premise. On 4 to 9: those that name an order. Document 02, of kind 11: "Rows 4 and 13 apply to it, row
+-- 9 doesn't"; of kind 12: "Row 4 applies".
 abbrev pub needsPremise : Record → Bool
-needsPremise r = leb kindRetire (r .kind) && leb (r .kind) kindReply || is kindDateChange r
+needsPremise r = leb kindRetire (r .kind) && leb (r .kind) kindReply || is kindDateChange r || is kindAgreement r
 
 abbrev pub namesOrder : Record → Bool
 namesOrder r = leb kindScheduled (r .kind) && leb (r .kind) kindReply || is kindDateChange r
@@ -112,10 +113,16 @@ abbrev pub isNothing : Found → Bool
 isNothing (At i) = false
 isNothing Nothing = true
 
--- rows 4 and 5
+-- C, 0 where there is no file
+abbrev pub agreementOf : Option File → ℕ
+agreementOf none = 0
+agreementOf (some f) = f .agreement
+
+-- Rows 4 and 5. Document 02, change 3: "18 when a delete names a retailer other than C, after 4; it is among the one-premise rows."
 unfoldable pub premiseRows : Option File → Record → List Row
 premiseRows file r =
     row NoSuchPremise (needsPremise r && not (isHeld file))
+    ∷ row OtherAgreement (is kindAgreement r && eqb (r .detail) delete && not (eqb (r .retailer) (agreementOf file)))
     ∷ row PremiseHeld (is kindCreate r && isHeld file)
     ∷ []
 

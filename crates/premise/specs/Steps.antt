@@ -1,5 +1,5 @@
--- Document 01, "Records": the steps of each record kind on a file, before the evaluation that ends kinds 3 to 9, and 11 of document 02,
--- change 1.
+-- Document 01, "Records": the steps of each record kind on a file, before the evaluation that ends kinds 3 to 9, and 11 of document 02;
+-- and kind 12 of document 02, which runs none.
 use Prim.Native.Nat.{ℕ}
 use mathlib.Core.List.{List, [], _∷_, _++_}
 use mathlib.Core.Bool.{Bool, cond, not, _&&_, _||_}
@@ -12,14 +12,14 @@ use Rattle.days.specs.Days.{noDay, isDay, isBusinessDay, switchDate}
 use Rattle.records.specs.declared.Record.{Record}
 use Rattle.records.specs.Notices.{tdsp}
 use Rattle.records.specs.Records.{kindScheduled, kindPermit, kindUnexecutable, kindRead, kindCancel, kindReply, moveIn, moveOut}
-use Rattle.records.specs.Records.{kindDateChange, standardSwitch, replyAccept, counterOf}
+use Rattle.records.specs.Records.{kindDateChange, standardSwitch, replyAccept, delete, counterOf}
 use Rattle.premise.specs.declared.Order.{Order}
 use Rattle.premise.specs.declared.File.{File}
 use Rattle.premise.specs.Orders.{mostOrders, inReview, permitPending, scheduled, cancelPending, complete, cancelled, unexecutable}
 use Rattle.premise.specs.Orders.{hasStatus, hasKind, isOpen, isClosed, noRetailer, businessDays, calendarDays, withStatus}
-use Rattle.premise.specs.Orders.{withScheduled, withWaited, withPending, blank, held, withOrders, withSupply}
+use Rattle.premise.specs.Orders.{withScheduled, withWaited, withPending, blank, held, withOrders, withSupply, withAgreement}
 use Rattle.premise.specs.Passes.{Change, Effect, notice, codeOrder, codeMoveOut, codeScheduled, codeCancel, codePermit}
-use Rattle.premise.specs.Passes.{codeUnexecutable, codeReject, codeDateChange}
+use Rattle.premise.specs.Passes.{codeUnexecutable, codeReject, codeDateChange, codeAgreementRequest, codeAgreementResponse, noticeOfNoOrder}
 
 -- whether a record is of a kind
 abbrev pub is : ℕ → Record → Bool
@@ -27,7 +27,15 @@ is kind r = eqb (r .kind) kind
 
 -- 1 create: new file; S is the day.
 abbrev pub newFile : Record → File
-newFile r = record { premise = r .premise; retailer = r .retailer; since = r .day; count = 0; orders = replicate mostOrders blank }
+newFile r =
+    record {
+      premise = r .premise;
+      retailer = r .retailer;
+      since = r .day;
+      agreement = 0;
+      count = 0;
+      orders = replicate mostOrders blank;
+    }
 
 -- 3 new order: for K 3 RD becomes the switch date; otherwise RD is the day.
 unfoldable pub requestedDay : List ℕ → ℕ → Record → ℕ
@@ -102,6 +110,11 @@ onPermit f r o =
       notices = notice codePermit (f .premise) (o .submitter) (withWaited 0 (withStatus permitPending o)) ∷ [];
     }
 
+-- Whom a told order tells: R. Document 02, change 3: "When a told move out is unexecutable, the second notice 7 goes to C, whatever R is; if
+-- C is 0, there is none."
+abbrev pub toldRetailer : File → Order → ℕ
+toldRetailer f o = cond (hasKind moveOut o) (f .agreement) (f .retailer)
+
 -- 6 unexecutable: Unexecutable, W 0. Notice 7 to Q; if told and R is not 0, then also to R.
 unfoldable pub onUnexecutable : File → Record → Order → Change
 onUnexecutable f r o =
@@ -109,8 +122,8 @@ onUnexecutable f r o =
       order = withPending 0 (withStatus unexecutable o);
       notices =
           notice codeUnexecutable (f .premise) (o .submitter) (withPending 0 (withStatus unexecutable o))
-          ∷ cond (eqb (o .told) 1 && not (eqb (f .retailer) noRetailer))
-          (notice codeUnexecutable (f .premise) (f .retailer) (withPending 0 (withStatus unexecutable o)) ∷ [])
+          ∷ cond (eqb (o .told) 1 && not (eqb (toldRetailer f o) noRetailer))
+          (notice codeUnexecutable (f .premise) (toldRetailer f o) (withPending 0 (withStatus unexecutable o)) ∷ [])
           [];
     }
 
@@ -122,11 +135,12 @@ onRead f r o =
       notices = [];
     }
 
--- 7, from 3: if the day is at least S, then S is the day and R becomes Q (0 for a move out).
+-- 7, from 3: if the day is at least S, then S is the day and R becomes Q (0 for a move out). Document 02, change 3: "A move out's read on a
+-- day not before S now sets R to C, where it set 0."
 unfoldable pub supplied : File → Record → Order → File
 supplied f r o =
     cond (is kindRead r && hasStatus scheduled o && leb (f .since) (r .day))
-    (withSupply f (cond (hasKind moveOut o) noRetailer (o .submitter)) (r .day))
+    (withSupply f (cond (hasKind moveOut o) (f .agreement) (o .submitter)) (r .day))
     f
 
 -- 8 cancel: Cancel Pending, W 0. Notice 5 to the TDSP.
@@ -189,6 +203,25 @@ onDateChange calendar today f r o =
           (notice codeDateChange (f .premise) (f .retailer) (redated calendar today r o) ∷ [])
           [];
     }
+
+-- Document 02, change 3. 12 agreement: "Establishing replaces C; a different earlier holder gets notice 10 (814_18), the new one notice 11
+-- (814_19), in that order. Deleting sets C to 0 with notice 11 to the retailer named."
+abbrev pub hasOtherHolder : File → Record → Bool
+hasOtherHolder f r = not (eqb (f .agreement) noRetailer) && not (eqb (f .agreement) (r .retailer))
+
+unfoldable pub agreed : File → Record → Effect
+agreed f r =
+    cond (eqb (r .detail) delete)
+    (record {
+      file = withAgreement f noRetailer;
+      notices = noticeOfNoOrder codeAgreementResponse (f .premise) (r .retailer) ∷ [];
+    })
+    (record {
+      file = withAgreement f (r .retailer);
+      notices =
+          cond (hasOtherHolder f r) (noticeOfNoOrder codeAgreementRequest (f .premise) (f .agreement) ∷ []) []
+          ++ (noticeOfNoOrder codeAgreementResponse (f .premise) (r .retailer) ∷ []);
+    })
 
 -- the kinds that name an order, on that order
 unfoldable pub onNamed : List ℕ → ℕ → File → Record → Order → Change

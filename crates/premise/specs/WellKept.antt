@@ -68,6 +68,7 @@ fileKept f =
     aPremise (f .premise)
     && aRetailerOrNone (f .retailer)
     && isDay (f .since)
+    && aRetailerOrNone (f .agreement)
     && leb (f .count) mostOrders
     && eqb (length (f .orders)) mostOrders
     && allOf orderKept (held f)
@@ -80,6 +81,7 @@ fileBlank f =
     eqb (f .premise) 0
     && eqb (f .retailer) 0
     && eqb (f .since) 0
+    && eqb (f .agreement) 0
     && eqb (f .count) 0
     && eqb (length (f .orders)) mostOrders
     && allOf isBlank (f .orders)
@@ -94,6 +96,7 @@ pub record FileKept (f : File) : Type 0 where
   pub premise : aPremise (f .premise) ≡ true
   pub retailer : aRetailerOrNone (f .retailer) ≡ true
   pub since : isDay (f .since) ≡ true
+  pub agreement : aRetailerOrNone (f .agreement) ≡ true
   pub orders : allOf orderKept (held f) ≡ true
   pub references : distinct (held f) ≡ true
   pub tidy : Tidy f

@@ -62,18 +62,21 @@ pub struct File {
     pub retailer: u32,
     // the day since which the retailer holds
     pub since: u16,
+    // the retailer with which the owner has an agreement, 0 where there is none
+    pub agreement: u32,
     pub count: usize,
     pub orders: [Order; 8],
 }
 
-// What a call answers: a name for each row of document 01's table of refusals, with the rows of document 02's changes 1 and 12, and one
-// for acceptance.
+// What a call answers: a name for each row of document 01's table of refusals, with the rows of document 02's changes 1, 3 and 12, and
+// one for acceptance.
 pub enum Answer {
     Accepted,
     ShortBuffer,
     NotWellKept,
     MalformedRecord,
     NoSuchPremise,
+    OtherAgreement,
     PremiseHeld,
     BookFull,
     OrderOpen,

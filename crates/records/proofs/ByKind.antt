@@ -5,7 +5,7 @@ use mathlib.Core.Bool.{false, and-assoc, and-false, or-assoc, or-false}
 use native.Mathlib.Omega.{arith}
 use lib.ListN.{getD, List·getD-eq-default}
 use Rattle.records.specs.declared.Record.{Record}
-use Rattle.records.specs.Records.{kindPermit, kindUnexecutable, kindDateChange, wellFormed}
+use Rattle.records.specs.Records.{kindPermit, kindUnexecutable, kindAgreement, wellFormed}
 use Rattle.records.specs.Kinds.{undatedHolds, holdsByKind}
 use Rattle.records.proofs.ByNumber.{anyAt, any-at, every-at}
 
@@ -26,5 +26,5 @@ formed-undated r h l =
     (formed-at kindPermit r, (formed-at kindUnexecutable r, tt)) (r .kind) h (omega arith) refl
 
 -- there is no kind past the last
-pub formed-past : (r : Record) → kindDateChange < r .kind → wellFormed r ≡ false
+pub formed-past : (r : Record) → kindAgreement < r .kind → wellFormed r ≡ false
 formed-past r h = formed-is r ∙ List·getD-eq-default (holdsByKind r) false h

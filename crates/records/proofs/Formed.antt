@@ -9,8 +9,9 @@ use borrow.Author.Tests.{eqb-true, eqb-false, leb-true, leb-false, not-true}
 use Rattle.lists.proofs.TestLaws.{and-left, and-right, pass-each}
 use Rattle.days.specs.Days.{lastDay, isDay}
 use Rattle.records.specs.declared.Record.{Record}
-use Rattle.records.specs.Records.{kindDateChange, standardSwitch, massTransitionDrop, replyReject, lastRetailer, unused, aReference}
-use Rattle.records.specs.Records.{aPremise, aRetailer, aRetailerOrNone, aCounter, anOrderKind, aReply, orderDay, wellFormed}
+use Rattle.records.specs.Records.{kindAgreement, standardSwitch, massTransitionDrop, replyReject, lastRetailer, unused, aReference}
+use Rattle.records.specs.Records.{aPremise, aRetailer, aRetailerOrNone, aCounter, anOrderKind, aReply, anAgreement, orderDay}
+use Rattle.records.specs.Records.{delete, wellFormed}
 use Rattle.records.specs.Kinds.{holds, datedHolds, undatedHolds, holdsByKind}
 use Rattle.records.specs.Laws.{Unused, ADay, Given, ARetailerOrNone, FieldsOfKind, fieldsByKind, Fields, UpTo, OrderDay, Formed}
 use Rattle.records.proofs.ByNumber.{_also_, every-at, Means, means-at}
@@ -81,6 +82,7 @@ by-kind r =
     also are-fields aReply unused aReference aPremise unused r (is-up-to replyReject) is-unused is-given is-given is-unused
     also are-fields unused isDay unused unused unused r is-unused is-day is-unused is-unused is-unused
     also are-fields unused isDay aReference aPremise aCounter r is-unused is-day is-given is-given is-given
+    also are-fields anAgreement unused unused aPremise aRetailer r (is-up-to delete) is-unused is-unused is-given (is-up-to lastRetailer)
     also tt
 
 -- What a well-formed record of a known kind holds.
@@ -97,17 +99,17 @@ module _ (r : Record) (w : wellFormed r ≡ true) where
           let other = eqb-false (r .kind) 0 e in
           omega arith
 
-  last-kind : r .kind ≤ kindDateChange
-  last-kind = go (leb (r .kind) kindDateChange) refl
+  last-kind : r .kind ≤ kindAgreement
+  last-kind = go (leb (r .kind) kindAgreement) refl
     where
-      go : (b : Bool) → leb (r .kind) kindDateChange ≡ b → r .kind ≤ kindDateChange
-      go true e = leb-true (r .kind) kindDateChange e
-      go false e = absurd (false≢true (sym (formed-past r (leb-false (r .kind) kindDateChange e)) ∙ w))
+      go : (b : Bool) → leb (r .kind) kindAgreement ≡ b → r .kind ≤ kindAgreement
+      go true e = leb-true (r .kind) kindAgreement e
+      go false e = absurd (false≢true (sym (formed-past r (leb-false (r .kind) kindAgreement e)) ∙ w))
 
 -- What a well-formed record of any kind holds.
 pub formed : (r : Record) → wellFormed r ≡ true → Formed r
 formed r w =
-    every-at (λ (k : ℕ). r .kind ≡ k → Formed r) 1 11
+    every-at (λ (k : ℕ). r .kind ≡ k → Formed r) 1 12
     ((λ e. let f = fields-at 1 r w e in omega arith)
     also (λ e. let f = fields-at 2 r w e in omega arith)
     also (λ e. let f = fields-at 3 r w e in omega arith)
@@ -119,5 +121,6 @@ formed r w =
     also (λ e. let f = fields-at 9 r w e in omega arith)
     also (λ e. let f = fields-at 10 r w e in omega arith)
     also (λ e. let f = fields-at 11 r w e in omega arith)
+    also (λ e. let f = fields-at 12 r w e in omega arith)
     also tt)
     (r .kind) (some-kind r w) (omega (arith, last-kind r w)) refl

@@ -4,7 +4,8 @@ use mathlib.Core.List.{List, [], _∷_}
 use mathlib.Core.Bool.{Bool, false, _&&_}
 use Rattle.days.specs.Days.{isDay}
 use Rattle.records.specs.declared.Record.{Record}
-use Rattle.records.specs.Records.{unused, aReference, aPremise, aRetailer, aRetailerOrNone, aCounter, anOrderKind, aReply, orderDay}
+use Rattle.records.specs.Records.{unused, aReference, aPremise, aRetailer, aRetailerOrNone, aCounter, anOrderKind, aReply, anAgreement}
+use Rattle.records.specs.Records.{orderDay}
 
 -- what the fields beside the kind may hold
 abbrev pub holds : (ℕ → Bool) → (ℕ → Bool) → (ℕ → Bool) → (ℕ → Bool) → (ℕ → Bool) → Record → Bool
@@ -40,7 +41,10 @@ dayMarkHolds = holds unused isDay unused unused unused
 abbrev pub dateChangeHolds : Record → Bool
 dateChangeHolds = holds unused isDay aReference aPremise aCounter
 
--- the kinds from 0, which is none, to 11
+abbrev pub agreementHolds : Record → Bool
+agreementHolds = holds anAgreement unused unused aPremise aRetailer
+
+-- the kinds from 0, which is none, to 12
 abbrev pub holdsByKind : Record → List Bool
 holdsByKind r =
     false
@@ -55,4 +59,5 @@ holdsByKind r =
     ∷ replyHolds r
     ∷ dayMarkHolds r
     ∷ dateChangeHolds r
+    ∷ agreementHolds r
     ∷ []

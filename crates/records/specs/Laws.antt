@@ -12,8 +12,8 @@ use Rattle.records.specs.declared.Reading.{Reading}
 use Rattle.records.specs.declared.Reading.the-variants.{Malformed, Says}
 use Rattle.records.specs.Layout.{Field, GoesInto, recordLength, kindField, detailField, dayField, referenceField, premiseField}
 use Rattle.records.specs.Layout.{retailerField, zeroField, fieldOf}
-use Rattle.records.specs.Records.{kindNewOrder, kindDayMark, kindDateChange, standardSwitch, massTransitionDrop, replyReject}
-use Rattle.records.specs.Records.{lastRetailer, aReference, aPremise, aCounter, wellFormed, fieldsOf}
+use Rattle.records.specs.Records.{kindNewOrder, kindDayMark, kindDateChange, kindAgreement, standardSwitch, massTransitionDrop}
+use Rattle.records.specs.Records.{replyReject, delete, lastRetailer, aReference, aPremise, aCounter, wellFormed, fieldsOf}
 
 -- What a field holds, as facts; specs/Records.antt has the tests.
 abbrev pub Unused : ℕ → Type 0
@@ -63,7 +63,7 @@ pub record Fields (Detail Day Reference Premise Retailer : ℕ → Type 0) (r : 
   pub premise : Premise (r .premise)
   pub retailer : Retailer (r .retailer)
 
--- the facts for the kinds from 0, which is none, to 11
+-- the facts for the kinds from 0, which is none, to 12
 abbrev pub fieldsByKind : Record → List (Type 0)
 fieldsByKind r =
     ⊥
@@ -78,6 +78,7 @@ fieldsByKind r =
     ∷ Fields (UpTo replyReject) Unused Given Given Unused r
     ∷ Fields Unused ADay Unused Unused Unused r
     ∷ Fields Unused ADay Given Given Given r
+    ∷ Fields (UpTo delete) Unused Unused Given ARetailer r
     ∷ []
 
 -- What a well-formed record of a kind holds: at a numeral it computes to that kind's `Fields`.
@@ -86,11 +87,11 @@ FieldsOfKind kind r = getD (fieldsByKind r) kind ⊥
 
 -- what a well-formed record of any kind holds
 pub record Formed (r : Record) : Type 0 where
-  pub kind : UpTo kindDateChange (r .kind)
+  pub kind : UpTo kindAgreement (r .kind)
   pub day : r .day ≤ lastDay
-  pub retailer : r .kind < kindDateChange → r .retailer ≤ lastRetailer
+  pub retailer : (r .kind ≡ kindDateChange → ⊥) → r .retailer ≤ lastRetailer
   pub premise : (r .kind ≡ kindDayMark → ⊥) → 1 ≤ r .premise
-  pub reference : kindNewOrder ≤ r .kind → (r .kind ≡ kindDayMark → ⊥) → 1 ≤ r .reference
+  pub reference : kindNewOrder ≤ r .kind → r .kind < kindAgreement → (r .kind ≡ kindDayMark → ⊥) → 1 ≤ r .reference
 
 -- each of a record's numbers goes into its field
 pub record InWidth (r : Record) : Type 0 where

@@ -11,7 +11,7 @@ use Rattle.records.specs.declared.Reading.the-variants.{Malformed, Says}
 use Rattle.records.specs.Layout.{recordLength, kindField, detailField, dayField, referenceField, premiseField, retailerField}
 use Rattle.records.specs.Layout.{zeroField, fieldOf}
 
--- The record kinds, 1 to 10, and 11 of document 02, change 1.
+-- The record kinds, 1 to 10, and of document 02 11 (change 1) and 12 (change 3).
 abbrev pub kindCreate : ℕ
 kindCreate = 1
 
@@ -45,6 +45,9 @@ kindDayMark = 10
 abbrev pub kindDateChange : ℕ
 kindDateChange = 11
 
+abbrev pub kindAgreement : ℕ
+kindAgreement = 12
+
 -- The order kinds K: 1 move in, 2 move out, 3 standard switch, 4 self-selected switch, 5 mass transition drop.
 abbrev pub moveIn : ℕ
 moveIn = 1
@@ -67,6 +70,13 @@ replyAccept = 1
 
 abbrev pub replyReject : ℕ
 replyReject = 2
+
+-- Document 02, change 3. An agreement's detail: "1 to establish and 2 to delete".
+abbrev pub establish : ℕ
+establish = 1
+
+abbrev pub delete : ℕ
+delete = 2
 
 -- Retailers are 1 to 999,999,999.
 abbrev pub lastRetailer : ℕ
@@ -102,6 +112,9 @@ anOrderKind n = leb moveIn n && leb n massTransitionDrop
 abbrev pub aReply : ℕ → Bool
 aReply n = leb replyAccept n && leb n replyReject
 
+abbrev pub anAgreement : ℕ → Bool
+anAgreement n = leb establish n && leb n delete
+
 -- a record of a kind, with what its detail, day, reference, premise and retailer may hold
 abbrev pub fits : ℕ → (ℕ → Bool) → (ℕ → Bool) → (ℕ → Bool) → (ℕ → Bool) → (ℕ → Bool) → Record → Bool
 fits kind detail day reference premise retailer r =
@@ -112,7 +125,8 @@ abbrev pub orderDay : ℕ → ℕ → Bool
 orderDay kind = cond (eqb kind standardSwitch) unused isDay
 
 -- Kind, detail and fields in range, unused fields zero: the ten kinds with the fields that document 01 gives each in brackets. Document 02,
--- change 1: "Record kind 11 carries day, F, P and, in bytes 16 to 19, an iteration counter".
+-- change 1: "Record kind 11 carries day, F, P and, in bytes 16 to 19, an iteration counter"; change 3: "Record kind 12 carries P, retailer
+-- and detail", "a retailer of 0 gets 3".
 unfoldable pub wellFormed : Record → Bool
 wellFormed r =
     fits kindCreate unused isDay unused aPremise aRetailerOrNone r
@@ -126,6 +140,7 @@ wellFormed r =
     || fits kindReply aReply unused aReference aPremise unused r
     || fits kindDayMark unused isDay unused unused unused r
     || fits kindDateChange unused isDay aReference aPremise aCounter r
+    || fits kindAgreement anAgreement unused unused aPremise aRetailer r
 
 -- the fields of some bytes
 abbrev pub fieldsOf : List ℕ → Record

@@ -14,6 +14,11 @@ pub const REPLY_ACCEPT: u8 = 1;
 
 pub const REPLY_REJECT: u8 = 2;
 
+// What an agreement's record does with it.
+pub const ESTABLISH: u8 = 1;
+
+pub const DELETE: u8 = 2;
+
 // Retailers are 1 to this number.
 pub const LAST_RETAILER: u32 = 999_999_999;
 // The addressee that is the TDSP, the wires company.

@@ -20,3 +20,5 @@ pub const REPLY: u8 = 9;
 pub const DAY_MARK: u8 = 10;
 
 pub const DATE_CHANGE: u8 = 11;
+
+pub const AGREEMENT: u8 = 12;

@@ -15,12 +15,12 @@ use Rattle.days.specs.Pieces as days
 use Rattle.records.specs.declared.Record.{Record}
 use Rattle.records.specs.declared.Notice.{Notice}
 use Rattle.records.specs.Records.{kindCreate, kindRetire, kindNewOrder, kindScheduled, kindPermit, kindUnexecutable, kindRead, kindCancel}
-use Rattle.records.specs.Records.{kindReply, kindDayMark, kindDateChange}
+use Rattle.records.specs.Records.{kindReply, kindDayMark, kindDateChange, kindAgreement, establish, delete}
 use Rattle.premise.specs.declared.Order.{Order}
 use Rattle.premise.specs.declared.File.{File}
-use Rattle.premise.specs.Orders.{businessDays, calendarDays, places}
+use Rattle.premise.specs.Orders.{businessDays, calendarDays, places, withAgreement}
 use Rattle.premise.specs.Steps.{requestedDay, makeRoom, ordered, taken, onScheduled, onPermit, onUnexecutable, onRead, supplied}
-use Rattle.premise.specs.Steps.{onCancel, onReply, onOrder, onDateChange, onNamed, changed}
+use Rattle.premise.specs.Steps.{onCancel, onReply, onOrder, onDateChange, onNamed, changed, agreed}
 use Rattle.premise.specs.Clock.{reviewed, permitAwaited, cancelAwaited, ticked}
 use Rattle.premise.specs.Evaluation.{contends, switchOfDay, givesWay, sameDaySwitch, isDisplaced, dropOnSwitchDay, isOvertaken}
 use Rattle.premise.specs.Evaluation.{permitOvertaken, isDue, lossNotice, evaluation}
@@ -70,6 +70,17 @@ redate reference day counter = on kindDateChange 0 day reference counter
 
 abbrev pub mark : ℕ → Record
 mark day = record { kind = kindDayMark; detail = 0; day = day; reference = 0; premise = 0; retailer = 0 }
+
+-- an agreement established with a retailer, or deleted
+abbrev agreement : ℕ → ℕ → Record
+agreement detail retailer =
+    record { kind = kindAgreement; detail = detail; day = 0; reference = 0; premise = 7; retailer = retailer }
+
+abbrev pub establishes : ℕ → Record
+establishes retailer = agreement establish retailer
+
+abbrev pub deletes : ℕ → Record
+deletes retailer = agreement delete retailer
 
 -- so many marks, the first on a day
 abbrev pub marks : ℕ → ℕ → List Record
@@ -124,14 +135,25 @@ counted counter o =
 abbrev pub zeros : Order
 zeros = stands 0 0 0 0 0 0 0 0 0
 
--- the file of premise 7: R, S and its orders
+-- the file of premise 7: R, S and its orders; the owner has no agreement
 abbrev pub file : ℕ → ℕ → List Order → File
 file retailer since os =
-    record { premise = 7; retailer = retailer; since = since; count = length os; orders = os ++ replicate (8 - length os) zeros }
+    record {
+      premise = 7;
+      retailer = retailer;
+      since = since;
+      agreement = 0;
+      count = length os;
+      orders = os ++ replicate (8 - length os) zeros;
+    }
 
 -- T and such a file; T and no file
 abbrev pub state : ℕ → ℕ → ℕ → List Order → State
 state today retailer since os = record { today = today; file = some (file retailer since os) }
+
+-- the same with an agreement with a retailer
+abbrev pub stateWith : ℕ → ℕ → ℕ → ℕ → List Order → State
+stateWith agreement today retailer since os = record { today = today; file = some (withAgreement (file retailer since os) agreement) }
 
 abbrev pub nothing : ℕ → State
 nothing today = record { today = today; file = none }
@@ -223,6 +245,7 @@ sameFile (some f) (some g) =
     eqb (f .premise) (g .premise)
     && eqb (f .retailer) (g .retailer)
     && eqb (f .since) (g .since)
+    && eqb (f .agreement) (g .agreement)
     && eqb (f .count) (g .count)
     && sameOrders (f .orders) (g .orders)
 
@@ -297,7 +320,7 @@ failing false name more = name ∷ more
 -- The names of the pieces that do not hold. (Where it is opened, so are the rules that a case computes with.)
 unfoldable pub failed : List Piece → List String
 unfolding kindOfDay isBusinessDay switchDate window.businessDays inWindow places requestedDay makeRoom ordered taken onScheduled onPermit
-    onUnexecutable onRead supplied onCancel onReply onOrder onDateChange onNamed changed reviewed permitAwaited cancelAwaited ticked contends switchOfDay
+    onUnexecutable onRead supplied onCancel onReply onOrder onDateChange onNamed changed agreed reviewed permitAwaited cancelAwaited ticked contends switchOfDay
     givesWay sameDaySwitch isDisplaced dropOnSwitchDay isOvertaken permitOvertaken isDue lossNotice evaluation refuses standsInWay
     notFirstIn orderKept isBlank fileKept fileBlank number premiseRows orderRows marked stepped step
 failed [] = []

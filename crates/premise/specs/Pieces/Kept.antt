@@ -5,18 +5,18 @@ use lib.ListN.{replicate}
 use Rattle.days.specs.Days.{noDay}
 use Rattle.records.specs.Notices.{tdsp}
 use Rattle.records.specs.Records.{kindCreate, kindRetire, kindNewOrder, kindScheduled, kindPermit, kindUnexecutable, kindRead, kindCancel}
-use Rattle.records.specs.Records.{kindReply, kindDayMark, kindDateChange, moveIn, moveOut, standardSwitch, selfSelectedSwitch, massTransitionDrop}
+use Rattle.records.specs.Records.{kindReply, kindDayMark, kindDateChange, kindAgreement, establish, delete, moveIn, moveOut, standardSwitch, selfSelectedSwitch, massTransitionDrop}
 use Rattle.records.specs.Records.{replyAccept, replyReject}
 use Rattle.premise.specs.declared.Order.{Order}
 use Rattle.premise.specs.declared.File.{File}
 use Rattle.premise.specs.declared.Answer.the-variants.{Accepted, ShortBuffer, NotWellKept, MalformedRecord, NoSuchPremise}
 use Rattle.premise.specs.declared.Answer.the-variants.{PremiseHeld, BookFull, OrderOpen, ReferenceHeld, DayOutOfRange, NoSwitchDate}
 use Rattle.premise.specs.declared.Answer.the-variants.{NotFirstIn, RetailerShareFull, StackFull, NoSuchOrder, StatusNotTaken}
-use Rattle.premise.specs.declared.Answer.the-variants.{CounterNotAbove, OrderInWindow, NotNextDay}
+use Rattle.premise.specs.declared.Answer.the-variants.{CounterNotAbove, OrderInWindow, OtherAgreement, NotNextDay}
 use Rattle.premise.specs.Orders.{inReview, permitPending, scheduled, cancelPending, complete, cancelled, unexecutable, noRetailer}
-use Rattle.premise.specs.Orders.{blankFile}
+use Rattle.premise.specs.Orders.{blankFile, withAgreement}
 use Rattle.premise.specs.Passes.{codeOrder, codeMoveOut, codeScheduled, codeLosing, codeCancel, codePermit, codeUnexecutable}
-use Rattle.premise.specs.Passes.{codeReject, codeDateChange}
+use Rattle.premise.specs.Passes.{codeReject, codeDateChange, codeAgreementRequest, codeAgreementResponse, codeAgreementMoveIn}
 use Rattle.premise.specs.Refusals.{number}
 use Rattle.premise.specs.OnePremise.{startState}
 use Rattle.premise.specs.Pieces.Forms.{Piece, piece, keeps, damaged, keepsFiles, damagedFiles, unusedFiles, usedFiles, numbered}
@@ -87,7 +87,7 @@ keptOrders =
 -- a file with its fields one by one
 abbrev fileOf : ℕ → ℕ → ℕ → ℕ → List Order → File
 fileOf premise retailer since count orders =
-    record { premise = premise; retailer = retailer; since = since; count = count; orders = orders }
+    record { premise = premise; retailer = retailer; since = since; agreement = 0; count = count; orders = orders }
 
 -- an order in range with its reference and status
 abbrev referred : ℕ → ℕ → Order
@@ -127,6 +127,9 @@ keptFiles =
     ∷ piece "not well kept: R 1,000,000,000" (damagedFiles (file 1000000000 5 [] ∷ []))
     ∷ piece "well kept: S 0 to 4,095" (keepsFiles (file 101 0 [] ∷ file 101 4095 [] ∷ []))
     ∷ piece "not well kept: S none" (damagedFiles (file 101 noDay [] ∷ []))
+    ∷ piece "well kept: C from 0 to 999,999,999"
+    (keepsFiles (withAgreement (file 101 5 []) 1 ∷ withAgreement (file 0 5 []) 999999999 ∷ []))
+    ∷ piece "not well kept: C 1,000,000,000" (damagedFiles (withAgreement (file 101 5 []) 1000000000 ∷ []))
     ∷ piece "well kept: 1 and 8 orders" (keepsFiles (file 101 5 (referred 1 scheduled ∷ []) ∷ file 101 5 eight ∷ []))
     ∷ piece "not well kept: 9 orders, 7 or 9 places"
     (damagedFiles (fileOf 7 101 5 9 eight ∷ fileOf 7 101 5 9 (eight ++ (referred 9 scheduled ∷ [])) ∷ fileOf 7 101 5 0 (replicate 7 zeros)
@@ -146,6 +149,7 @@ keptFiles =
     ∷ piece "unused: every field zero" (unusedFiles (fileOf 0 0 0 0 (replicate 8 zeros) ∷ blankFile ∷ []))
     ∷ piece "not unused: a field that is not zero"
     (usedFiles (fileOf 1 0 0 0 (replicate 8 zeros) ∷ fileOf 0 1 0 0 (replicate 8 zeros) ∷ fileOf 0 0 1 0 (replicate 8 zeros)
+    ∷ withAgreement (fileOf 0 0 0 0 (replicate 8 zeros)) 1
     ∷ fileOf 0 0 0 1 (replicate 8 zeros) ∷ fileOf 0 0 0 0 (replicate 7 zeros)
     ∷ map (λ (o : Order). fileOf 0 0 0 0 (replicate 7 zeros ++ (o ∷ []))) almost))
     ∷ []
@@ -155,24 +159,24 @@ numbers =
     piece "statuses 1 to 7"
     (numbered (inReview ∷ permitPending ∷ scheduled ∷ cancelPending ∷ complete ∷ cancelled ∷ unexecutable ∷ [])
     (1 ∷ 2 ∷ 3 ∷ 4 ∷ 5 ∷ 6 ∷ 7 ∷ []))
-    ∷ piece "codes 1 to 9"
+    ∷ piece "codes 1 to 12"
     (numbered (codeOrder ∷ codeMoveOut ∷ codeScheduled ∷ codeLosing ∷ codeCancel ∷ codePermit ∷ codeUnexecutable ∷ codeReject
-    ∷ codeDateChange ∷ [])
-    (1 ∷ 2 ∷ 3 ∷ 4 ∷ 5 ∷ 6 ∷ 7 ∷ 8 ∷ 9 ∷ []))
-    ∷ piece "record kinds 1 to 11"
+    ∷ codeDateChange ∷ codeAgreementRequest ∷ codeAgreementResponse ∷ codeAgreementMoveIn ∷ [])
+    (1 ∷ 2 ∷ 3 ∷ 4 ∷ 5 ∷ 6 ∷ 7 ∷ 8 ∷ 9 ∷ 10 ∷ 11 ∷ 12 ∷ []))
+    ∷ piece "record kinds 1 to 12; establish 1, delete 2"
     (numbered (kindCreate ∷ kindRetire ∷ kindNewOrder ∷ kindScheduled ∷ kindPermit ∷ kindUnexecutable ∷ kindRead ∷ kindCancel ∷ kindReply
-    ∷ kindDayMark ∷ kindDateChange ∷ [])
-    (1 ∷ 2 ∷ 3 ∷ 4 ∷ 5 ∷ 6 ∷ 7 ∷ 8 ∷ 9 ∷ 10 ∷ 11 ∷ []))
+    ∷ kindDayMark ∷ kindDateChange ∷ kindAgreement ∷ establish ∷ delete ∷ [])
+    (1 ∷ 2 ∷ 3 ∷ 4 ∷ 5 ∷ 6 ∷ 7 ∷ 8 ∷ 9 ∷ 10 ∷ 11 ∷ 12 ∷ 1 ∷ 2 ∷ []))
     ∷ piece "order kinds 1 to 5; accept 1, reject 2; the TDSP and no retailer 0; no day 4,096"
     (numbered (moveIn ∷ moveOut ∷ standardSwitch ∷ selfSelectedSwitch ∷ massTransitionDrop ∷ replyAccept ∷ replyReject ∷ tdsp ∷ noRetailer
     ∷ noDay ∷ [])
     (1 ∷ 2 ∷ 3 ∷ 4 ∷ 5 ∷ 1 ∷ 2 ∷ 0 ∷ 0 ∷ 4096 ∷ []))
-    ∷ piece "answers 0 to 17 and 26"
+    ∷ piece "answers 0 to 18 and 26"
     (numbered (number Accepted ∷ number ShortBuffer ∷ number NotWellKept ∷ number MalformedRecord ∷ number NoSuchPremise
     ∷ number PremiseHeld ∷ number BookFull ∷ number OrderOpen ∷ number ReferenceHeld ∷ number DayOutOfRange ∷ number NoSwitchDate
     ∷ number NotFirstIn ∷ number StackFull ∷ number NoSuchOrder ∷ number StatusNotTaken ∷ number NotNextDay
-    ∷ number CounterNotAbove ∷ number OrderInWindow ∷ number RetailerShareFull ∷ [])
-    (0 ∷ 1 ∷ 2 ∷ 3 ∷ 4 ∷ 5 ∷ 6 ∷ 7 ∷ 8 ∷ 9 ∷ 10 ∷ 11 ∷ 12 ∷ 13 ∷ 14 ∷ 15 ∷ 16 ∷ 17 ∷ 26 ∷ []))
+    ∷ number CounterNotAbove ∷ number OrderInWindow ∷ number OtherAgreement ∷ number RetailerShareFull ∷ [])
+    (0 ∷ 1 ∷ 2 ∷ 3 ∷ 4 ∷ 5 ∷ 6 ∷ 7 ∷ 8 ∷ 9 ∷ 10 ∷ 11 ∷ 12 ∷ 13 ∷ 14 ∷ 15 ∷ 16 ∷ 17 ∷ 18 ∷ 26 ∷ []))
     ∷ piece "they start with the start day and no file" (leaves plain (startState 10) [] (nothing 10))
     ∷ piece "they start at 4,095 if it is above" (numbered (startState 4095 .today ∷ startState 4096 .today ∷ []) (4095 ∷ 4095 ∷ []))
     ∷ []

@@ -11,7 +11,7 @@ use Rattle.premise.specs.Orders.{inReview, permitPending, scheduled, can
 use Rattle.premise.specs.FirstIn.{table}
 use Rattle.premise.specs.OnePremise.{State}
 use Rattle.premise.specs.Pieces.Forms.{Case, Piece, piece, answered, asked, numbered, nothing, state, stands, plain, business}
-use Rattle.premise.specs.Pieces.Forms.{create, retire, order, schedule, permit, unexecuted, read, cancel, reply, redate, mark}
+use Rattle.premise.specs.Pieces.Forms.{create, retire, order, schedule, permit, unexecuted, read, cancel, reply, redate, establishes, deletes, mark}
 
 -- a file with one order of 201, by K, SD and status; its reference is 1
 abbrev holding : ℕ → ℕ → ℕ → State
@@ -114,13 +114,13 @@ retires status answer = asked plain (holding moveIn 15 status) (retire ∷ []) (
 
 unfoldable pub premises : List Piece
 premises =
-    piece "4: each of the kinds 2 to 9 and 11, and no other" (asked plain (nothing 10)
-    (create 0 101 ∷ retire ∷ order moveIn 12 1 201 ∷ onIt ++ (mark 11 ∷ []))
-    (0 ∷ replicate 10 4 ++ (0 ∷ [])))
+    piece "4: each of the kinds 2 to 9, 11 and 12, and no other" (asked plain (nothing 10)
+    (create 0 101 ∷ retire ∷ order moveIn 12 1 201 ∷ onIt ++ (establishes 900 ∷ deletes 900 ∷ mark 11 ∷ []))
+    (0 ∷ replicate 12 4 ++ (0 ∷ [])))
     ∷ piece "4 before 9, 10 and 15" (asked [] (nothing 4095)
     (order moveIn 12 1 201 ∷ order standardSwitch 0 1 201 ∷ mark 4095 ∷ []) (4 ∷ 4 ∷ 15 ∷ []))
     ∷ piece "5: a create of a premise with a file, and no other kind" (asked plain (holding moveIn noDay inReview)
-    (create 0 101 ∷ order moveIn 12 2 201 ∷ schedule 1 15 ∷ mark 11 ∷ []) (5 ∷ 0 ∷ 0 ∷ 0 ∷ []))
+    (create 0 101 ∷ order moveIn 12 2 201 ∷ schedule 1 15 ∷ establishes 900 ∷ mark 11 ∷ []) (5 ∷ 0 ∷ 0 ∷ 0 ∷ 0 ∷ []))
     ∷ piece "7: In Review" (retires inReview 7)
     ∷ piece "7: Permit Pending" (retires permitPending 7)
     ∷ piece "7: Scheduled" (retires scheduled 7)

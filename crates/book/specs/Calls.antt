@@ -24,7 +24,7 @@ abbrev pub noticeBytes : ℕ
 noticeBytes = 24576
 
 -- ---- the table
--- rows 3 to 15, with 26 between 11 and 12 and 16 and 17 after 14, by what the record's bytes say
+-- rows 3 to 15, with 18 after 4, 26 between 11 and 12 and 16 and 17 after 14, by what the record's bytes say
 abbrev pub recordRows : List ℕ → Book → Reading → List Row
 recordRows calendar b Malformed = row MalformedRecord true ∷ []
 recordRows calendar b (Says r) =

@@ -70,11 +70,11 @@ abbrev pub CallFew : Type 0
 CallFew = (calendar : List ℕ) (b : Book) (bytes lent : List ℕ) → recordLength * length (call calendar b bytes lent .notices) ≤ length lent
 
 -- ---- the table of refusals
--- its rows' numbers, in its order: 1 to 15 of a record, with 26 between 11 and 12 and 16 and 17 after 14, and 1 to 3 of malformed bytes, of which row 3 holds
+-- its rows' numbers, in its order: 1 to 15 of a record, with 18 after 4, 26 between 11 and 12 and 16 and 17 after 14, and 1 to 3 of malformed bytes, of which row 3 holds
 abbrev pub RowsOfRecord : Type 0
 RowsOfRecord =
     (calendar : List ℕ) (b : Book) (bytes lent : List ℕ) (r : Record) → reading bytes ≡ Says r
-    → rowNumbers (callRows calendar b bytes lent) ≡ 1 ∷ 2 ∷ 3 ∷ 4 ∷ 5 ∷ 6 ∷ 7 ∷ 8 ∷ 9 ∷ 10 ∷ 11 ∷ 26 ∷ 12 ∷ 13 ∷ 14 ∷ 16 ∷ 17 ∷ 15 ∷ []
+    → rowNumbers (callRows calendar b bytes lent) ≡ 1 ∷ 2 ∷ 3 ∷ 4 ∷ 18 ∷ 5 ∷ 6 ∷ 7 ∷ 8 ∷ 9 ∷ 10 ∷ 11 ∷ 26 ∷ 12 ∷ 13 ∷ 14 ∷ 16 ∷ 17 ∷ 15 ∷ []
 
 abbrev pub RowsOfMalformed : Type 0
 RowsOfMalformed =

@@ -126,13 +126,14 @@ overtaken-two today os o e =
     let h : hasStatus permitPending o ≡ true = must (hasStatus permitPending o) (isOvertaken today os o) (λ n. simp (n, and-false)) e in
     rw (h, or-true)
 
-due-one : (near : ℕ → Bool) (o : Order) → isDue near o ≡ true → atTelling o ≡ 1
+due-one : (near : ℕ → Bool) (agreement : ℕ) (o : Order) → isDue near agreement o ≡ true → atTelling o ≡ 1
 unfolding isDue
-due-one near o e =
-    let h : hasStatus scheduled o ≡ true = must (hasStatus scheduled o) (isDue near o) (λ n. simp n) e in
+due-one near agreement o e =
+    let h : hasStatus scheduled o ≡ true = must (hasStatus scheduled o) (isDue near agreement o) (λ n. simp n) e in
     rw h
 
-module _ (near : ℕ → Bool) (only : OnlyDays near) (today premise retailer : ℕ) (os : List Order) (i : ℕ) (o : Order) where
+module _ (near : ℕ → Bool) (only : OnlyDays near) (today premise retailer agreement : ℕ) (os : List Order) (i : ℕ)
+    (o : Order) where
   pub same-day-few : Sends atDropping (atSettling o) (sameDaySwitch near premise os i o)
   unfolding sameDaySwitch
   same-day-few = search (few, sends-either, sends-two, sends-none, way-two near only, dropping-settling)
@@ -145,6 +146,6 @@ module _ (near : ℕ → Bool) (only : OnlyDays near) (today premise retailer : 
   unfolding permitOvertaken
   overtaken-few = search (few, sends-either, sends-two, sends-none, overtaken-two, telling-dropping)
 
-  pub loss-few : Sends done (atTelling o) (lossNotice near premise retailer o)
+  pub loss-few : Sends done (atTelling o) (lossNotice near premise retailer agreement o)
   unfolding lossNotice
   loss-few = search (few, sends-either, sends-one, sends-none, due-one, zero-le)

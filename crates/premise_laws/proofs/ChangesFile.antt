@@ -38,34 +38,34 @@ file-same f tidy done e = ap (onFile f) e ∙ ap {B = Effect} (λ (g : File). re
 
 -- ---- the evaluation
 module _ (today last : ℕ) where
-  module _ (premise retailer : ℕ) (os : List Order) (e : anyAt (changesOrder today last os) 0 os ≡ false) where
-    same-day-still : sameDaySwitches (upTo last) premise os ≡ record { orders = os; notices = [] }
+  module _ (f : File) (os : List Order) (e : anyAt (changesOrder today last (f .agreement) os) 0 os ≡ false) where
+    same-day-still : sameDaySwitches (upTo last) (f .premise) os ≡ record { orders = os; notices = [] }
     same-day-still =
-        pass-same (changesOrder today last os) (sameDaySwitch (upTo last) premise os)
-        (λ i o h. same-day-stays (upTo last) os i o premise (let-be today last os i o h .one)) 0 os e
+        pass-same (changesOrder today last (f .agreement) os) (sameDaySwitch (upTo last) (f .premise) os)
+        (λ i o h. same-day-stays (upTo last) os i o (f .premise) (let-be today last (f .agreement) os i o h .one)) 0 os e
 
-    drops-still : dropsOnSwitchDays (upTo last) premise retailer os ≡ record { orders = os; notices = [] }
+    drops-still : dropsOnSwitchDays (upTo last) f os ≡ record { orders = os; notices = [] }
     drops-still =
-        pass-same (changesOrder today last os) (λ (i : ℕ). dropOnSwitchDay (upTo last) premise retailer os)
-        (λ i o h. drop-stays (upTo last) os o premise retailer (let-be today last os i o h .two)) 0 os e
+        pass-same (changesOrder today last (f .agreement) os) (λ (i : ℕ). dropOnSwitchDay (upTo last) (f .premise) (f .retailer) os)
+        (λ i o h. drop-stays (upTo last) os o (f .premise) (f .retailer) (let-be today last (f .agreement) os i o h .two)) 0 os e
 
-    permits-still : permitsOvertaken today premise os ≡ record { orders = os; notices = [] }
-    permits-still = pass-same (changesOrder today last os) (λ (i : ℕ). permitOvertaken today premise os)
-        (λ i o h. permit-stays today os o premise (let-be today last os i o h .three)) 0 os e
+    permits-still : permitsOvertaken today (f .premise) os ≡ record { orders = os; notices = [] }
+    permits-still = pass-same (changesOrder today last (f .agreement) os) (λ (i : ℕ). permitOvertaken today (f .premise) os)
+        (λ i o h. permit-stays today os o (f .premise) (let-be today last (f .agreement) os i o h .three)) 0 os e
 
-    losses-still : lossNotices (upTo last) premise retailer os ≡ record { orders = os; notices = [] }
+    losses-still : lossNotices (upTo last) f os ≡ record { orders = os; notices = [] }
     losses-still =
-        pass-same (changesOrder today last os) (λ (i : ℕ). lossNotice (upTo last) premise retailer)
-        (λ i o h. loss-stays (upTo last) o premise retailer (let-be today last os i o h .four)) 0 os e
+        pass-same (changesOrder today last (f .agreement) os) (λ (i : ℕ). lossNotice (upTo last) (f .premise) (f .retailer) (f .agreement))
+        (λ i o h. loss-stays (upTo last) o (f .premise) (f .retailer) (f .agreement) (let-be today last (f .agreement) os i o h .four)) 0 os e
 
-    evaluation-still : evaluation (upTo last) today premise retailer os ≡ record { orders = os; notices = [] }
+    evaluation-still : evaluation (upTo last) today f os ≡ record { orders = os; notices = [] }
     unfolding evaluation
     evaluation-still =
-        ap (λ (a : Outcome). andThen (andThen (andThen a (dropsOnSwitchDays (upTo last) premise retailer)) (permitsOvertaken today premise))
-        (lossNotices (upTo last) premise retailer)) same-day-still
-        ∙ ap (λ (a : Outcome). andThen (andThen a (permitsOvertaken today premise)) (lossNotices (upTo last) premise retailer))
+        ap (λ (a : Outcome). andThen (andThen (andThen a (dropsOnSwitchDays (upTo last) f)) (permitsOvertaken today (f .premise)))
+        (lossNotices (upTo last) f)) same-day-still
+        ∙ ap (λ (a : Outcome). andThen (andThen a (permitsOvertaken today (f .premise))) (lossNotices (upTo last) f))
         drops-still
-        ∙ ap (λ (a : Outcome). andThen a (lossNotices (upTo last) premise retailer)) permits-still
+        ∙ ap (λ (a : Outcome). andThen a (lossNotices (upTo last) f)) permits-still
         ∙ losses-still
 
 -- document 01's window, by its last day
@@ -75,9 +75,9 @@ evaluated-by-last calendar today last window f =
     ap (λ (near : ℕ → Bool). evaluatedBy near today f) (window-is-up-to calendar windowWidth today last window)
 
 pub evaluated-still : (calendar : List ℕ) (today last : ℕ) → LastInWindow calendar windowWidth today last
-    → (f : File) → Tidy f → anyAt (changesOrder today last (held f)) 0 (held f) ≡ false
+    → (f : File) → Tidy f → anyAt (changesOrder today last (f .agreement) (held f)) 0 (held f) ≡ false
     → evaluated calendar today f ≡ record { file = f; notices = [] }
 evaluated-still calendar today last window f tidy e =
     evaluated-by-last calendar today last window f
-    ∙ file-same f tidy (evaluation (upTo last) today (f .premise) (f .retailer) (held f))
-    (evaluation-still today last (f .premise) (f .retailer) (held f) e)
+    ∙ file-same f tidy (evaluation (upTo last) today f (held f))
+    (evaluation-still today last f (held f) e)

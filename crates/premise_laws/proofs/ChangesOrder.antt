@@ -10,7 +10,7 @@ use Rattle.lists.proofs.TestLaws.{or-left, or-right}
 use Rattle.days.specs.Window.{upTo}
 use Rattle.records.specs.Records.{moveOut, massTransitionDrop}
 use Rattle.premise.specs.declared.Order.{Order}
-use Rattle.premise.specs.Orders.{permitPending, scheduled, cancelPending, hasStatus, hasKind, isSwitch}
+use Rattle.premise.specs.Orders.{permitPending, scheduled, cancelPending, hasStatus, hasKind, isSwitch, noRetailer}
 use Rattle.premise.specs.Evaluation.{isScheduledOrCancelPending, contends, switchOfDay, givesWay, switchOn, isDisplaced, isOvertaken, isDue}
 use Rattle.premise_laws.specs.Changes.{mayChange}
 use Rattle.premise_laws.specs.Changes.{changesOrder}
@@ -34,27 +34,27 @@ or-last true b h = refl
 or-last false b h = sym h
 
 -- no pass changes an order: what each asks of it is not so
-pub record LetBe (today last : ℕ) (os : List Order) (i : ℕ) (o : Order) : Type 0 where
+pub record LetBe (today last agreement : ℕ) (os : List Order) (i : ℕ) (o : Order) : Type 0 where
   pub one : givesWay (upTo last) os i o ≡ false
   pub two : isDisplaced (upTo last) os o ≡ false
   pub three : isOvertaken today os o ≡ false
-  pub four : isDue (upTo last) o ≡ false
+  pub four : isDue (upTo last) agreement o ≡ false
 
-module _ (today last : ℕ) (os : List Order) (i : ℕ) (o : Order) where
+module _ (today last agreement : ℕ) (os : List Order) (i : ℕ) (o : Order) where
   -- ---- the pass that may change it
-  pub changes-due : isDue (upTo last) o ≡ true → true ≡ changesOrder today last os i o
+  pub changes-due : isDue (upTo last) agreement o ≡ true → true ≡ changesOrder today last agreement os i o
   unfolding changesOrder
-  changes-due e = or-last (givesWay (upTo last) os i o || isDisplaced (upTo last) os o || isOvertaken today os o) (isDue (upTo last) o) e
+  changes-due e = or-last (givesWay (upTo last) os i o || isDisplaced (upTo last) os o || isOvertaken today os o) (isDue (upTo last) agreement o) e
 
   -- neither Scheduled nor Cancel Pending, or not in window: pass 3
-  changes-far : (isScheduledOrCancelPending o && upTo last (o .scheduled)) ≡ false → isOvertaken today os o ≡ changesOrder today last os i o
+  changes-far : (isScheduledOrCancelPending o && upTo last (o .scheduled)) ≡ false → isOvertaken today os o ≡ changesOrder today last agreement os i o
   unfolding changesOrder givesWay contends isDisplaced isDue
   changes-far far =
       let near = upTo last (o .scheduled) in
-      only-third (givesWay (upTo last) os i o) (isDisplaced (upTo last) os o) (isOvertaken today os o) (isDue (upTo last) o)
+      only-third (givesWay (upTo last) os i o) (isDisplaced (upTo last) os o) (isOvertaken today os o) (isDue (upTo last) agreement o)
       (one (isSwitch o) (isScheduledOrCancelPending o) near (not (isAt (switchOfDay (upTo last) os (o .scheduled)) i)) far)
       (two (hasKind massTransitionDrop o) (hasStatus scheduled o) (hasStatus cancelPending o) near (anyOf (switchOn (o .scheduled)) os) far)
-      (four (hasStatus scheduled o) (hasStatus cancelPending o) (not (hasKind moveOut o)) (eqb (o .told) 0) near far)
+      (four (hasStatus scheduled o) (hasStatus cancelPending o) (not (hasKind moveOut o) || not (eqb agreement noRetailer)) (eqb (o .told) 0) near far)
     where
       one : (k s n x : Bool) → (s && n) ≡ false → (k && s && n && x) ≡ false
       one true s n x h = ap (λ (b : Bool). b && x) h
@@ -71,45 +71,45 @@ module _ (today last : ℕ) (os : List Order) (i : ℕ) (o : Order) where
       four true c false t n h = refl
       four false c m t n h = refl
 
-  pub changes-permit : o .status ≡ permitPending → isOvertaken today os o ≡ changesOrder today last os i o
+  pub changes-permit : o .status ≡ permitPending → isOvertaken today os o ≡ changesOrder today last agreement os i o
   changes-permit p = changes-far (rw p)
 
-  module _ (p : o .status ≡ permitPending → ⊥) (d : isDue (upTo last) o ≡ false) where
-    pub changes-switch : isSwitch o ≡ true → givesWay (upTo last) os i o ≡ changesOrder today last os i o
+  module _ (p : o .status ≡ permitPending → ⊥) (d : isDue (upTo last) agreement o ≡ false) where
+    pub changes-switch : isSwitch o ≡ true → givesWay (upTo last) os i o ≡ changesOrder today last agreement os i o
     unfolding changesOrder
     changes-switch s =
-        only-first (givesWay (upTo last) os i o) (isDisplaced (upTo last) os o) (isOvertaken today os o) (isDue (upTo last) o)
+        only-first (givesWay (upTo last) os i o) (isDisplaced (upTo last) os o) (isOvertaken today os o) (isDue (upTo last) agreement o)
         (sym (displaced-other (upTo last) os o (λ k. false≢true (rw k at s))))
         (not-overtaken today os o (ne-eqb (o .status) permitPending p))
         d
 
-    pub changes-other : isSwitch o ≡ false → isDisplaced (upTo last) os o ≡ changesOrder today last os i o
+    pub changes-other : isSwitch o ≡ false → isDisplaced (upTo last) os o ≡ changesOrder today last agreement os i o
     unfolding changesOrder
     changes-other s =
-        only-second (givesWay (upTo last) os i o) (isDisplaced (upTo last) os o) (isOvertaken today os o) (isDue (upTo last) o)
+        only-second (givesWay (upTo last) os i o) (isDisplaced (upTo last) os o) (isOvertaken today os o) (isDue (upTo last) agreement o)
         (no-switch (upTo last) os i o s)
         (not-overtaken today os o (ne-eqb (o .status) permitPending p))
         d
 
   -- ---- what it says by itself
-  pub changes-not : mayChange last o ≡ false → changesOrder today last os i o ≡ false
+  pub changes-not : mayChange last o ≡ false → changesOrder today last agreement os i o ≡ false
   changes-not e =
       let near = isScheduledOrCancelPending o && upTo last (o .scheduled) in
       sym (changes-far (or-right (hasStatus permitPending o) near e))
       ∙ not-overtaken today os o (or-left (hasStatus permitPending o) near e)
 
   -- ---- no pass
-  pub let-be : changesOrder today last os i o ≡ false → LetBe today last os i o
+  pub let-be : changesOrder today last agreement os i o ≡ false → LetBe today last agreement os i o
   unfolding changesOrder
   let-be e =
       let a = givesWay (upTo last) os i o in
       let b = isDisplaced (upTo last) os o in
       let c = isOvertaken today os o in
-      let three = or-left (a || b || c) (isDue (upTo last) o) e in
+      let three = or-left (a || b || c) (isDue (upTo last) agreement o) e in
       let two = or-left (a || b) c three in
       record {
         one = or-left a b two;
         two = or-right a b two;
         three = or-right (a || b) c three;
-        four = or-right (a || b || c) (isDue (upTo last) o) e;
+        four = or-right (a || b || c) (isDue (upTo last) agreement o) e;
       }

@@ -12,13 +12,13 @@ use Rattle.lists.specs.declared.Found.the-variants.{At, Nothing}
 use Rattle.days.specs.Days.{isBusinessDay}
 use Rattle.days.specs.Window.{windowWidth, inWindow}
 use Rattle.records.specs.declared.Record.{Record}
-use Rattle.records.specs.Records.{kindCreate, kindRetire, kindNewOrder, kindDayMark}
+use Rattle.records.specs.Records.{kindCreate, kindRetire, kindNewOrder, kindDayMark, kindAgreement, delete}
 use Rattle.premise.specs.declared.Order.{Order}
 use Rattle.premise.specs.declared.File.{File}
 use Rattle.premise.specs.Orders.{mostOrders, held, withOrders}
-use Rattle.premise.specs.Passes.{Outcome, Effect}
+use Rattle.premise.specs.Passes.{Outcome, Effect, noticeOfNoOrder, codeAgreementRequest, codeAgreementResponse}
 use Rattle.premise.specs.Steps.{is, makeRoom, newOrder, named, orderAt, supplied, ordered, changed, onOrder, onScheduled, onPermit}
-use Rattle.premise.specs.Steps.{onUnexecutable, onRead, onCancel, onReply, onDateChange, onNamed}
+use Rattle.premise.specs.Steps.{onUnexecutable, onRead, onCancel, onReply, onDateChange, onNamed, hasOtherHolder, agreed}
 use Rattle.premise.specs.Clock.{clock, ticked}
 use Rattle.premise.specs.Evaluation.{sameDaySwitches, sameDaySwitch, dropsOnSwitchDays, dropOnSwitchDay, permitsOvertaken, permitOvertaken}
 use Rattle.premise.specs.Evaluation.{lossNotices, lossNotice, evaluation, evaluated}
@@ -38,22 +38,25 @@ total-most most h [] = omega arith
 total-most most h (o ∷ os) = omega (arith, h o, total-most most h os)
 
 -- ---- the evaluation
-evaluation-few : (near : ℕ → Bool) → OnlyDays near → (today premise retailer : ℕ) (os : List Order)
-    → length (evaluation near today premise retailer os .notices) ≤ total atSettling os
+evaluation-few : (near : ℕ → Bool) → OnlyDays near → (today : ℕ) (f : File) (os : List Order)
+    → length (evaluation near today f os .notices) ≤ total atSettling os
 unfolding evaluation
-evaluation-few near only today premise retailer os =
+evaluation-few near only today f os =
+    let premise = f .premise in
+    let retailer = f .retailer in
+    let agreement = f .agreement in
     let one : Outcome = sameDaySwitches near premise os in
-    let two : Outcome = dropsOnSwitchDays near premise retailer (one .orders) in
+    let two : Outcome = dropsOnSwitchDays near f (one .orders) in
     let three : Outcome = permitsOvertaken today premise (two .orders) in
-    let four : Outcome = lossNotices near premise retailer (three .orders) in
+    let four : Outcome = lossNotices near f (three .orders) in
     omega (
       arith,
-      each-few atSettling atDropping (sameDaySwitch near premise os) (same-day-few near only today premise retailer os) 0 os,
+      each-few atSettling atDropping (sameDaySwitch near premise os) (same-day-few near only today premise retailer agreement os) 0 os,
       each-few atDropping atDropping (λ (i : ℕ). dropOnSwitchDay near premise retailer (one .orders))
-          (drop-few near only today premise retailer (one .orders)) 0 (one .orders),
+          (drop-few near only today premise retailer agreement (one .orders)) 0 (one .orders),
       each-few atDropping atTelling (λ (i : ℕ). permitOvertaken today premise (two .orders))
-          (overtaken-few near only today premise retailer (two .orders)) 0 (two .orders),
-      each-few atTelling done (λ (i : ℕ). lossNotice near premise retailer) (loss-few near only today premise retailer (three .orders)) 0
+          (overtaken-few near only today premise retailer agreement (two .orders)) 0 (two .orders),
+      each-few atTelling done (λ (i : ℕ). lossNotice near premise retailer agreement) (loss-few near only today premise retailer agreement (three .orders)) 0
           (three .orders),
       length-append (one .notices) (two .notices),
       length-append (one .notices ++ two .notices) (three .notices),
@@ -64,8 +67,7 @@ pub evaluated-few : (calendar : List ℕ) (today : ℕ) (f : File) → length (e
 evaluated-few calendar today f =
     omega (
       arith,
-      evaluation-few (inWindow calendar windowWidth today) (window-days calendar windowWidth today) today (f .premise)
-          (f .retailer) (held f),
+      evaluation-few (inWindow calendar windowWidth today) (window-days calendar windowWidth today) today f (held f),
       total-most atSettling settling-most (held f),
     )
 
@@ -78,8 +80,8 @@ mark-few calendar today f k =
       pass-few orderKept atMark atSettling (λ (i : ℕ). ticked (isBusinessDay calendar today) today (f .premise))
           (λ i. ticked-few (isBusinessDay calendar today) today (f .premise)) 0 (held f) (k .orders),
       total-most atMark (λ o. omega arith) (held f),
-      evaluation-few (inWindow calendar windowWidth today) (window-days calendar windowWidth today) today (f .premise) (f .retailer)
-          (held (withOrders f (ticks .orders))),
+      evaluation-few (inWindow calendar windowWidth today) (window-days calendar windowWidth today) today
+          (withOrders f (ticks .orders)) (held (withOrders f (ticks .orders))),
       ap (total atSettling) (held-with f (ticks .orders)),
       length-append (ticks .notices) (evaluated calendar today (withOrders f (ticks .orders)) .notices),
     )
@@ -134,6 +136,17 @@ stepped-few calendar today f r h room =
           (evaluated calendar today (first .file) .notices),
     )
 
+agreed-few : (f : File) (r : Record) → length (agreed f r .notices) ≤ mostOfRecord
+unfolding agreed
+agreed-few f r =
+    by-test (λ (e : Effect). length (e .notices) ≤ mostOfRecord) (eqb (r .detail) delete) _ _ (λ d. omega arith) (λ d. go (hasOtherHolder f r))
+  where
+    go : (other : Bool)
+        → length (cond other (noticeOfNoOrder codeAgreementRequest (f .premise) (f .agreement) ∷ []) []
+        ++ (noticeOfNoOrder codeAgreementResponse (f .premise) (r .retailer) ∷ [])) ≤ mostOfRecord
+    go true = omega arith
+    go false = omega arith
+
 effect-few : (calendar : List ℕ) (today : ℕ) (file : Option File) (r : Record)
     → eqb (number (firstRow (rows calendar today file r))) 0 ≡ true → is kindDayMark r ≡ false → Held FileKept file
     → length (effectOn calendar today file r .notices) ≤ mostOfRecord
@@ -143,7 +156,8 @@ effect-few calendar today (some f) r e m k =
     let P : Given → Type 0 = (λ g. length (g .notices) ≤ mostOfRecord) in
     by-test P (is kindRetire r) _ _ (λ t. omega arith) (λ t.
     by-test P (is kindDayMark r) _ _ (λ t. absurd (true≢false (sym t ∙ m))) (λ t.
-    stepped-few calendar today f r (k .tidy .few) (λ new. accepted-room calendar today f r (k .tidy .few) e new)))
+    by-test (λ (a : Effect). length (a .notices) ≤ mostOfRecord) (is kindAgreement r) _ _ (λ t. agreed-few f r) (λ t.
+    stepped-few calendar today f r (k .tidy .few) (λ new. accepted-room calendar today f r (k .tidy .few) e new))))
 
 pub step-few : StepFew
 unfolding step

@@ -135,7 +135,7 @@ module _ (business : Bool) (today premise : ℕ) (o : Order) (k : OrderKept o) w
       (λ q. leaves-same o k)))
 
 -- ---- the four passes
-module _ (near : ℕ → Bool) (today premise retailer : ℕ) (os : List Order) (o : Order) (k : OrderKept o) where
+module _ (near : ℕ → Bool) (today premise retailer agreement : ℕ) (os : List Order) (o : Order) (k : OrderKept o) where
   pub leaves-same-day : (i : ℕ) → Leaves o (sameDaySwitch near premise os i o .order)
   unfolding sameDaySwitch
   leaves-same-day i = by-test (LeavesBy o) (givesWay near os i o) _ _ (λ q. leaves-cancelled o k) (λ q. leaves-same o k)
@@ -148,10 +148,10 @@ module _ (near : ℕ → Bool) (today premise retailer : ℕ) (os : List Order) 
   unfolding permitOvertaken
   leaves-overtaken = by-test (LeavesBy o) (isOvertaken today os o) _ _ (λ q. leaves-cancelled o k) (λ q. leaves-same o k)
 
-  pub leaves-loss : Leaves o (lossNotice near premise retailer o .order)
+  pub leaves-loss : Leaves o (lossNotice near premise retailer agreement o .order)
   unfolding lossNotice
   leaves-loss =
-      by-test (LeavesBy o) (isDue near o) _ _
+      by-test (LeavesBy o) (isDue near agreement o) _ _
       (λ q. leaves o (o .status) (o .scheduled) (o .waited .0) (o .pending .0) 1 k (λ e. e) (k .status) (k .scheduled) (k .permit)
       (k .waited) (k .pending) refl)
       (λ q. leaves-same o k)

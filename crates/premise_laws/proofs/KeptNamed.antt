@@ -1,5 +1,5 @@
 -- Kinds 4 to 9 and 11 leave a well-kept file: the order that they name was open, and stands in its place with its reference and its Q, kept;
--- a meter read takes R from an order's Q and S from the record's day, both in range. Assumes nothing.
+-- a meter read takes R from an order's Q or from C and S from the record's day, all in range. Assumes nothing.
 use Prim.Native.Nat.{ℕ, _<_}
 use mathlib.Core.Path.{_≡_, refl, sym, _∙_}
 use mathlib.Core.List.{List}
@@ -19,7 +19,7 @@ use Rattle.records.specs.Records.{kindScheduled, kindPermit, kindUnexecutable, 
 use Rattle.records.specs.Records.{kindDateChange, aRetailerOrNone, wellFormed}
 use Rattle.premise.specs.declared.Order.{Order}
 use Rattle.premise.specs.declared.File.{File}
-use Rattle.premise.specs.Orders.{inReview, scheduled, hasKind, hasStatus, isOpen, isOpenOf, noRetailer, blank, held}
+use Rattle.premise.specs.Orders.{inReview, scheduled, hasKind, hasStatus, isOpen, isOpenOf, blank, held}
 use Rattle.premise.specs.Steps.{is, named, orderAt, taken, onPermit, onOrder, onDateChange, onNamed, supplied, changed}
 use Rattle.premise.specs.OnePremise.{atPlace}
 use Rattle.premise_laws.specs.Laws.{KeptFor}
@@ -88,14 +88,16 @@ module _ (calendar : List ℕ) (today : ℕ) (f : File) (r : Record) (o : Order)
   unfolding onNamed
   named-order-leaves = by-test (LeavesBy o) (is kindDateChange r) _ _ date-leaves (λ e. order-leaves)
 
-  -- R becomes Q, or 0 for a move out; S the day, of a meter read
+  -- R becomes Q, or C for a move out; S the day, of a meter read
   supplied-keeps : (premise : ℕ) → KeptFor premise f → HeaderKept premise (supplied f r o)
   unfolding supplied
   supplied-keeps premise h =
       by-test (HeaderKept premise) (is kindRead r && hasStatus scheduled o && leb (f .since) (r .day)) _ f (λ e. record {
         number = h .number;
         known = h .kept .premise;
-        retailer = by-test (λ (q : ℕ). aRetailerOrNone q ≡ true) (hasKind moveOut o) noRetailer (o .submitter) (λ q. refl)
+        agreement = h .kept .agreement;
+        retailer = by-test (λ (q : ℕ). aRetailerOrNone q ≡ true) (hasKind moveOut o) (f .agreement) (o .submitter)
+            (λ q. h .kept .agreement)
             (λ q. and-right (leb 1 (o .submitter)) (aRetailerOrNone (o .submitter)) (k .submitter));
         since = read-fits r w
             (and-left (is kindRead r) (hasStatus scheduled o)

@@ -15,7 +15,7 @@ use Rattle.days.specs.Window.{windowWidth, inWindow}
 use Rattle.records.specs.Records.{aPremise, aRetailerOrNone}
 use Rattle.premise.specs.declared.Order.{Order}
 use Rattle.premise.specs.declared.File.{File}
-use Rattle.premise.specs.Orders.{mostOrders, isOpen, isOpenOf, openOf, held, withOrders}
+use Rattle.premise.specs.Orders.{mostOrders, isOpen, isOpenOf, openOf, held, withOrders, withAgreement}
 use Rattle.premise.specs.Passes.{Change, Outcome, passFrom, andThen}
 use Rattle.premise.specs.Clock.{ticked, clock}
 use Rattle.premise.specs.Evaluation.{sameDaySwitch, sameDaySwitches, dropOnSwitchDay, dropsOnSwitchDays, permitOvertaken, permitsOvertaken}
@@ -78,32 +78,32 @@ both-leave : (first : Outcome) (next : List Order → Outcome) (os : List Order)
     → ((xs : List Order) → Each OrderKept xs → LeavesAll xs (next xs .orders)) → LeavesAll os (andThen first next .orders)
 both-leave first next os a n = leaves-then os (first .orders) (next (first .orders) .orders) a (n (first .orders) (a .kept))
 
-module _ (near : ℕ → Bool) (today premise retailer : ℕ) where
-  same-day-leaves : (os : List Order) → Each OrderKept os → LeavesAll os (sameDaySwitches near premise os .orders)
-  same-day-leaves os k = pass-leaves (sameDaySwitch near premise os) (λ i o h. leaves-same-day near today premise retailer os o h i) 0 os k
+module _ (near : ℕ → Bool) (today : ℕ) (f : File) where
+  same-day-leaves : (os : List Order) → Each OrderKept os → LeavesAll os (sameDaySwitches near (f .premise) os .orders)
+  same-day-leaves os k = pass-leaves (sameDaySwitch near (f .premise) os) (λ i o h. leaves-same-day near today (f .premise) (f .retailer) (f .agreement) os o h i) 0 os k
 
-  drops-leave : (os : List Order) → Each OrderKept os → LeavesAll os (dropsOnSwitchDays near premise retailer os .orders)
-  drops-leave os k = pass-leaves (λ (i : ℕ). dropOnSwitchDay near premise retailer os)
-      (λ i o h. leaves-drop near today premise retailer os o h) 0 os k
+  drops-leave : (os : List Order) → Each OrderKept os → LeavesAll os (dropsOnSwitchDays near f os .orders)
+  drops-leave os k = pass-leaves (λ (i : ℕ). dropOnSwitchDay near (f .premise) (f .retailer) os)
+      (λ i o h. leaves-drop near today (f .premise) (f .retailer) (f .agreement) os o h) 0 os k
 
-  permits-leave : (os : List Order) → Each OrderKept os → LeavesAll os (permitsOvertaken today premise os .orders)
-  permits-leave os k = pass-leaves (λ (i : ℕ). permitOvertaken today premise os)
-      (λ i o h. leaves-overtaken near today premise retailer os o h)
+  permits-leave : (os : List Order) → Each OrderKept os → LeavesAll os (permitsOvertaken today (f .premise) os .orders)
+  permits-leave os k = pass-leaves (λ (i : ℕ). permitOvertaken today (f .premise) os)
+      (λ i o h. leaves-overtaken near today (f .premise) (f .retailer) (f .agreement) os o h)
       0 os k
 
-  losses-leave : (os : List Order) → Each OrderKept os → LeavesAll os (lossNotices near premise retailer os .orders)
-  losses-leave os k = pass-leaves (λ (i : ℕ). lossNotice near premise retailer) (λ i o h. leaves-loss near today premise retailer os o h) 0
+  losses-leave : (os : List Order) → Each OrderKept os → LeavesAll os (lossNotices near f os .orders)
+  losses-leave os k = pass-leaves (λ (i : ℕ). lossNotice near (f .premise) (f .retailer) (f .agreement)) (λ i o h. leaves-loss near today (f .premise) (f .retailer) (f .agreement) os o h) 0
       os k
 
-  pub evaluation-leaves : (os : List Order) → Each OrderKept os → LeavesAll os (evaluation near today premise retailer os .orders)
+  pub evaluation-leaves : (os : List Order) → Each OrderKept os → LeavesAll os (evaluation near today f os .orders)
   unfolding evaluation
   evaluation-leaves os k =
-      let one = sameDaySwitches near premise os in
-      let two = andThen one (dropsOnSwitchDays near premise retailer) in
-      let three = andThen two (permitsOvertaken today premise) in
-      let a = both-leave one (dropsOnSwitchDays near premise retailer) os (same-day-leaves os k) drops-leave in
-      let b = both-leave two (permitsOvertaken today premise) os a permits-leave in
-      both-leave three (lossNotices near premise retailer) os b losses-leave
+      let one = sameDaySwitches near (f .premise) os in
+      let two = andThen one (dropsOnSwitchDays near f) in
+      let three = andThen two (permitsOvertaken today (f .premise)) in
+      let a = both-leave one (dropsOnSwitchDays near f) os (same-day-leaves os k) drops-leave in
+      let b = both-leave two (permitsOvertaken today (f .premise)) os a permits-leave in
+      both-leave three (lossNotices near f) os b losses-leave
 
 -- ---- a file
 -- the file of a premise, R and S in range
@@ -112,9 +112,17 @@ pub record HeaderKept (premise : ℕ) (f : File) : Type 0 where
   pub known : aPremise (f .premise) ≡ true
   pub retailer : aRetailerOrNone (f .retailer) ≡ true
   pub since : isDay (f .since) ≡ true
+  pub agreement : aRetailerOrNone (f .agreement) ≡ true
 
 pub header-of : (premise : ℕ) (f : File) → KeptFor premise f → HeaderKept premise f
-header-of premise f k = record { number = k .number; known = k .kept .premise; retailer = k .kept .retailer; since = k .kept .since }
+header-of premise f k =
+    record {
+      number = k .number;
+      known = k .kept .premise;
+      retailer = k .kept .retailer;
+      since = k .kept .since;
+      agreement = k .kept .agreement;
+    }
 
 -- with other orders
 pub kept-with : (premise : ℕ) (f : File) (os : List Order) → HeaderKept premise f → length os ≤ mostOrders → Each OrderKept os
@@ -127,9 +135,27 @@ kept-with premise f os h n k d =
         premise = h .known;
         retailer = h .retailer;
         since = h .since;
+        agreement = h .agreement;
         orders = ap (allOf orderKept) (held-with f os) ∙ orders-test os k;
         references = ap distinct (held-with f os) ∙ d;
         tidy = tidy-with f os n;
+      };
+    }
+
+-- with another agreement
+pub kept-agreement : (premise : ℕ) (f : File) (agreement : ℕ) → aRetailerOrNone agreement ≡ true → KeptFor premise f
+    → KeptFor premise (withAgreement f agreement)
+kept-agreement premise f agreement h k =
+    record {
+      number = k .number;
+      kept = record {
+        premise = k .kept .premise;
+        retailer = k .kept .retailer;
+        since = k .kept .since;
+        agreement = h;
+        orders = k .kept .orders;
+        references = k .kept .references;
+        tidy = record { few = k .kept .tidy .few; whole = k .kept .tidy .whole };
       };
     }
 
@@ -154,9 +180,9 @@ file-after premise f g os k h a = record {
 pub evaluated-leaves : (calendar : List ℕ) (today : ℕ) (f : File) (premise : ℕ) → KeptFor premise f
     → LeavesFile premise f (evaluated calendar today f .file)
 evaluated-leaves calendar today f premise k =
-    file-after premise f f (evaluation (inWindow calendar windowWidth today) today (f .premise) (f .retailer) (held f) .orders) k
+    file-after premise f f (evaluation (inWindow calendar windowWidth today) today f (held f) .orders) k
     (header-of premise f k)
-    (evaluation-leaves (inWindow calendar windowWidth today) today (f .premise) (f .retailer) (held f)
+    (evaluation-leaves (inWindow calendar windowWidth today) today f (held f)
     (orders-facts (held f) (k .kept .orders)))
 
 pub mark-leaves : (calendar : List ℕ) (today : ℕ) (f : File) (premise : ℕ) → KeptFor premise f

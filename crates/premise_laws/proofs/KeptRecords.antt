@@ -13,7 +13,7 @@ use Rattle.days.specs.Days.{noDay, isDay, isBusinessDay, switchDate}
 use Rattle.records.specs.declared.Record.{Record}
 use Rattle.records.specs.Records.{kindCreate, kindRetire, kindNewOrder, kindScheduled, kindRead, kindCancel, kindDayMark, kindDateChange}
 use Rattle.records.specs.Records.{standardSwitch, aReference, aPremise, aRetailer, aRetailerOrNone, aCounter, anOrderKind, orderDay}
-use Rattle.records.specs.Records.{unused, wellFormed}
+use Rattle.records.specs.Records.{kindAgreement, delete, anAgreement, unused, wellFormed}
 use Rattle.records.proofs.ByKind.{formed-at}
 use Rattle.premise.specs.declared.File.{File}
 use Rattle.premise.specs.Orders.{mostOrders, mostOfOne, isOpen, openOf}
@@ -21,7 +21,7 @@ use Rattle.premise.specs.Clock.{mostWaited}
 use Rattle.premise.specs.Steps.{is, requestedDay, waitBegun, named, orderAt, taken}
 use Rattle.premise.specs.FirstIn.{notFirstIn}
 use Rattle.premise.specs.Refusals.{Row, number, firstRow, premiseRows, orderRows, rows, isHeld, ordersOf, isNothing, needsPremise}
-use Rattle.premise.specs.Refusals.{namesOrder, limited, outOfRange, notAbove, tooLate}
+use Rattle.premise.specs.Refusals.{namesOrder, agreementOf, limited, outOfRange, notAbove, tooLate}
 
 -- a wait that begins is within the count
 pub wait-few : (calendar : List ℕ) (today : ℕ) → leb (waitBegun calendar today) mostWaited ≡ true
@@ -63,6 +63,10 @@ module _ (r : Record) (w : wellFormed r ≡ true) where
   date-change-fits e = fields unused isDay aReference aPremise aCounter r
       (sym (formed-at kindDateChange r (eqb-true (r .kind) kindDateChange e)) ∙ w)
 
+  pub agreement-fits : is kindAgreement r ≡ true → Fits anAgreement unused unused aPremise aRetailer r
+  agreement-fits e = fields anAgreement unused unused aPremise aRetailer r
+      (sym (formed-at kindAgreement r (eqb-true (r .kind) kindAgreement e)) ∙ w)
+
 -- ---- no row held
 abbrev Refuses : Row → Type 0
 Refuses row = eqb (number (row .answer)) 0 ≡ false
@@ -82,6 +86,7 @@ none-held (row ∷ rs) n h = go (row .when) refl h (none-held rs (n .1))
 -- the rows of the one-premise rules, by what each says
 pub record NoRow (calendar : List ℕ) (today : ℕ) (file : Option File) (r : Record) : Type 0 where
   pub noSuchPremise : (needsPremise r && not (isHeld file)) ≡ false
+  pub otherAgreement : (is kindAgreement r && eqb (r .detail) delete && not (eqb (r .retailer) (agreementOf file))) ≡ false
   pub premiseHeld : (is kindCreate r && isHeld file) ≡ false
   pub orderOpen : (is kindRetire r && anyOf isOpen (ordersOf file)) ≡ false
   pub referenceHeld : (is kindNewOrder r && not (isNothing (named r (ordersOf file)))) ≡ false
@@ -103,20 +108,21 @@ pub no-row : (calendar : List ℕ) (today : ℕ) (file : Option File) (r : Recor
 unfolding premiseRows orderRows number
 no-row calendar today file r h =
     let k = none-held (rows calendar today file r)
-    (refl, (refl, (refl, (refl, (refl, (refl, (refl, (refl, (refl, (refl, (refl, (refl, (refl, (refl, tt)))))))))))))) h in
+    (refl, (refl, (refl, (refl, (refl, (refl, (refl, (refl, (refl, (refl, (refl, (refl, (refl, (refl, (refl, tt))))))))))))))) h in
     record {
       noSuchPremise = k .0;
-      premiseHeld = k .1 .0;
-      orderOpen = k .1 .1 .0;
-      referenceHeld = k .1 .1 .1 .0;
-      dayOutOfRange = k .1 .1 .1 .1 .0;
-      noSwitchDate = k .1 .1 .1 .1 .1 .0;
-      notFirst = k .1 .1 .1 .1 .1 .1 .0;
-      shareFull = k .1 .1 .1 .1 .1 .1 .1 .0;
-      stackFull = k .1 .1 .1 .1 .1 .1 .1 .1 .0;
-      noSuchOrder = k .1 .1 .1 .1 .1 .1 .1 .1 .1 .0;
-      statusNotTaken = k .1 .1 .1 .1 .1 .1 .1 .1 .1 .1 .0;
-      counterNotAbove = k .1 .1 .1 .1 .1 .1 .1 .1 .1 .1 .1 .0;
-      inWindow = k .1 .1 .1 .1 .1 .1 .1 .1 .1 .1 .1 .1 .0;
-      notNextDay = k .1 .1 .1 .1 .1 .1 .1 .1 .1 .1 .1 .1 .1 .0;
+      otherAgreement = k .1 .0;
+      premiseHeld = k .1 .1 .0;
+      orderOpen = k .1 .1 .1 .0;
+      referenceHeld = k .1 .1 .1 .1 .0;
+      dayOutOfRange = k .1 .1 .1 .1 .1 .0;
+      noSwitchDate = k .1 .1 .1 .1 .1 .1 .0;
+      notFirst = k .1 .1 .1 .1 .1 .1 .1 .0;
+      shareFull = k .1 .1 .1 .1 .1 .1 .1 .1 .0;
+      stackFull = k .1 .1 .1 .1 .1 .1 .1 .1 .1 .0;
+      noSuchOrder = k .1 .1 .1 .1 .1 .1 .1 .1 .1 .1 .0;
+      statusNotTaken = k .1 .1 .1 .1 .1 .1 .1 .1 .1 .1 .1 .0;
+      counterNotAbove = k .1 .1 .1 .1 .1 .1 .1 .1 .1 .1 .1 .1 .0;
+      inWindow = k .1 .1 .1 .1 .1 .1 .1 .1 .1 .1 .1 .1 .1 .0;
+      notNextDay = k .1 .1 .1 .1 .1 .1 .1 .1 .1 .1 .1 .1 .1 .1 .0;
     }

@@ -9,22 +9,22 @@ use mathlib.Core.Bool.{Bool, true, false, not, _&&_, _||_, and-true, or-true}
 use native.Mathlib.Omega.{arith}
 use lib.Dec.{eqb, leb}
 use borrow.Author.Tests.{eqb-true, eqb-false, le-leb, not-false}
-use Rattle.lists.proofs.TestLaws.{by-test, and-other}
+use Rattle.lists.proofs.TestLaws.{by-test, and-right, and-other}
 use Rattle.records.specs.declared.Record.{Record}
 use Rattle.records.specs.Records.{kindCreate, kindRetire, kindNewOrder, kindScheduled, kindReply, kindDayMark, kindDateChange}
-use Rattle.records.specs.Records.{wellFormed}
+use Rattle.records.specs.Records.{kindAgreement, delete, aRetailerOrNone, wellFormed}
 use Rattle.records.proofs.Formed.{formed}
 use Rattle.premise.specs.declared.File.{File}
-use Rattle.premise.specs.Orders.{held, places}
+use Rattle.premise.specs.Orders.{noRetailer, held, places}
 use Rattle.premise.specs.Passes.{Effect}
 use Rattle.premise.specs.Evaluation.{evaluated}
-use Rattle.premise.specs.Steps.{is, newFile, ordered, named, orderAt, taken}
+use Rattle.premise.specs.Steps.{is, newFile, ordered, named, orderAt, taken, agreed}
 use Rattle.premise.specs.WellKept.{FileKept}
 use Rattle.premise.specs.Refusals.{number, rows, firstRow, namesOrder}
 use Rattle.premise.specs.OnePremise.{Given, atPlace, stepped, effectOn, step, givenOn}
 use Rattle.premise_laws.specs.Laws.{Held, KeptFor, StepKeeps, WithinShare, StepKeepsShares}
-use Rattle.premise_laws.proofs.KeptPasses.{kept-with, evaluated-leaves, mark-leaves}
-use Rattle.premise_laws.proofs.KeptRecords.{create-fits, NoRow, no-row}
+use Rattle.premise_laws.proofs.KeptPasses.{kept-with, kept-agreement, evaluated-leaves, mark-leaves}
+use Rattle.premise_laws.proofs.KeptRecords.{create-fits, agreement-fits, NoRow, no-row}
 use Rattle.premise_laws.proofs.KeptNew.{ordered-keeps, ordered-share}
 use Rattle.premise_laws.proofs.KeptNamed.{named-leaves}
 
@@ -36,10 +36,10 @@ record Left (premise retailer : ℕ) (before : Type 0) (f : File) : Type 0 where
 abbrev LeftBy : ℕ → ℕ → Type 0 → Given → Type 0
 LeftBy premise retailer before given = Held (Left premise retailer before) (given .state .file)
 
--- a record that is neither create nor retire, new order nor day mark names an order
+-- a record that is neither create nor retire, new order, day mark nor agreement names an order
 names-order : (r : Record) → wellFormed r ≡ true → is kindCreate r ≡ false → is kindRetire r ≡ false → is kindNewOrder r ≡ false
-    → is kindDayMark r ≡ false → namesOrder r ≡ true
-names-order r w c t n d = go (is kindDateChange r) refl
+    → is kindDayMark r ≡ false → is kindAgreement r ≡ false → namesOrder r ≡ true
+names-order r w c t n d a = go (is kindDateChange r) refl
   where
     go : (change : Bool) → is kindDateChange r ≡ change → namesOrder r ≡ true
     go true e = ap (λ (x : Bool). leb kindScheduled (r .kind) && leb (r .kind) kindReply || x) e ∙ or-true (leb kindScheduled (r .kind) && leb (r .kind) kindReply)
@@ -55,7 +55,13 @@ names-order r w c t n d = go (is kindDateChange r) refl
           eqb-false (r .kind) kindNewOrder n,
         )))
         (le-leb (r .kind) kindReply
-        (omega (arith, k .within, eqb-false (r .kind) kindDayMark d, eqb-false (r .kind) kindDateChange e)))
+        (omega (
+          arith,
+          k .within,
+          eqb-false (r .kind) kindDayMark d,
+          eqb-false (r .kind) kindDateChange e,
+          eqb-false (r .kind) kindAgreement a,
+        )))
 
 module _ (calendar : List ℕ) (today : ℕ) (r : Record) (premise retailer : ℕ) (w : wellFormed r ≡ true) where
   -- kind 1
@@ -65,31 +71,31 @@ module _ (calendar : List ℕ) (today : ℕ) (r : Record) (premise retailer : �
       let fits = create-fits r w e in
       record {
         kept = kept-with premise (newFile r) []
-            (record { number = p; known = fits .premise; retailer = fits .retailer; since = fits .day }) (omega arith) tt refl;
+            (record { number = p; known = fits .premise; retailer = fits .retailer; since = fits .day; agreement = refl }) (omega arith) tt refl;
         share = λ h. omega arith;
       }
 
   -- kinds 3 to 9 and 11
   module _ (f : File) (n : NoRow calendar today (some f) r) (k : KeptFor premise f) where
     -- the order that is named is taken, by row 14
-    named-taken : is kindRetire r ≡ false → is kindDayMark r ≡ false → is kindNewOrder r ≡ false
+    named-taken : is kindRetire r ≡ false → is kindDayMark r ≡ false → is kindAgreement r ≡ false → is kindNewOrder r ≡ false
         → taken r (orderAt (held f) (named r (held f))) ≡ true
-    named-taken t d e =
+    named-taken t d a e =
         let o = orderAt (held f) (named r (held f)) in
         let c = sym (and-true (is kindCreate r)) ∙ n .premiseHeld in
-        not-false (taken r o) (and-other (namesOrder r) (not (taken r o)) (n .statusNotTaken) (names-order r w c t e d))
+        not-false (taken r o) (and-other (namesOrder r) (not (taken r o)) (n .statusNotTaken) (names-order r w c t e d a))
 
-    stepped-left : is kindRetire r ≡ false → is kindDayMark r ≡ false
+    stepped-left : is kindRetire r ≡ false → is kindDayMark r ≡ false → is kindAgreement r ≡ false
         → Left premise retailer (WithinShare retailer f) (stepped calendar today f r .file)
     unfolding stepped
-    stepped-left t d = ending
+    stepped-left t d agreement = ending
         (by-test (λ (e : Effect). Left premise retailer (WithinShare retailer f) (e .file)) (is kindNewOrder r) (ordered calendar today f r)
         (atPlace calendar today f r (named r (held f)))
         (λ e. record {
           kept = ordered-keeps calendar today f r w n e premise k;
           share = ordered-share calendar today f r w n e retailer;
         })
-        (λ e. let a = named-leaves calendar today f r w (named-taken t d e) premise k in
+        (λ e. let a = named-leaves calendar today f r w (named-taken t d agreement e) premise k in
         record { kept = a .kept; share = λ h. omega (arith, h, a .open-of retailer) }))
       where
         -- .. and then the evaluation
@@ -98,6 +104,17 @@ module _ (calendar : List ℕ) (today : ℕ) (r : Record) (premise retailer : �
         ending {g} a =
             let b = evaluated-leaves calendar today g premise (a .kept) in
             record { kept = b .kept; share = λ h. omega (arith, a .share h, b .open-of retailer) }
+
+    -- kind 12 leaves the orders, and C is in range
+    agreed-left : is kindAgreement r ≡ true → Left premise retailer (WithinShare retailer f) (agreed f r .file)
+    unfolding agreed
+    agreed-left e = by-test (λ (a : Effect). Left premise retailer (WithinShare retailer f) (a .file)) (eqb (r .detail) delete) _ _
+        (λ d. record { kept = kept-agreement premise f noRetailer refl k; share = λ h. h })
+        (λ d. record {
+          kept = kept-agreement premise f (r .retailer)
+              (and-right (leb 1 (r .retailer)) (aRetailerOrNone (r .retailer)) (agreement-fits r w e .retailer)) k;
+          share = λ h. h;
+        })
 
   -- where there is no file, a create is of the premise
   abbrev Own : Option File → Type 0
@@ -113,7 +130,8 @@ module _ (calendar : List ℕ) (today : ℕ) (r : Record) (premise retailer : �
       (λ t. by-test (LeftBy premise retailer (WithinShare retailer f)) (is kindDayMark r) _ _
       (λ d. let a = mark-leaves calendar (r .day) f premise k in
       record { kept = a .kept; share = λ h. omega (arith, h, a .open-of retailer) })
-      (λ d. stepped-left f n k t d))
+      (λ d. by-test (λ (a : Effect). Left premise retailer (WithinShare retailer f) (a .file)) (is kindAgreement r) _ _ (agreed-left f n k)
+      (stepped-left f n k t d)))
 
   -- a refusal leaves what there was
   as-before : (file : Option File) → Held (KeptFor premise) file → Held (Left premise retailer (Held (WithinShare retailer) file)) file

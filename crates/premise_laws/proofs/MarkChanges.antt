@@ -19,9 +19,10 @@ use Rattle.premise_laws.specs.Changes.{anyAt}
 use Rattle.premise_laws.proofs.ChangesFile.{pass-same, file-same, evaluated-still}
 use Rattle.premise_laws.specs.Changes.{markChangesOrder, UnchangedStays}
 
-pub mark-changes-clock : (business : Bool) (today last : ℕ) (os : List Order) (i : ℕ) (o : Order) → clockChanges business today o ≡ true
-    → markChangesOrder business today last os i o ≡ true
-mark-changes-clock business today last os i o e = ap (λ (b : Bool). b || changesOrder today last os i o) e
+pub mark-changes-clock : (business : Bool) (today last agreement : ℕ) (os : List Order) (i : ℕ) (o : Order)
+    → clockChanges business today o ≡ true
+    → markChangesOrder business today last agreement os i o ≡ true
+mark-changes-clock business today last agreement os i o e = ap (λ (b : Bool). b || changesOrder today last agreement os i o) e
 
 -- what no order passes, none passes that asks more
 any-less : (p q : ℕ → Order → Bool) → ((i : ℕ) (o : Order) → p i o ≡ false → q i o ≡ false) → (j : ℕ) (os : List Order)
@@ -36,10 +37,11 @@ unfolding marked
 unchanged-stays calendar today last f tidy window e =
     let business = isBusinessDay calendar today in
     let os = held f in
-    let wound = pass-same (markChangesOrder business today last os) (λ (i : ℕ). ticked business today (f .premise))
-    (λ i o h. tick-still business today o (f .premise) (or-left (clockChanges business today o) (changesOrder today last os i o) h)) 0
+    let agreement = f .agreement in
+    let wound = pass-same (markChangesOrder business today last agreement os) (λ (i : ℕ). ticked business today (f .premise))
+    (λ i o h. tick-still business today o (f .premise) (or-left (clockChanges business today o) (changesOrder today last agreement os i o) h)) 0
     os e in
-    let quiet = any-less (markChangesOrder business today last os) (changesOrder today last os)
-    (λ i o. or-right (clockChanges business today o) (changesOrder today last os i o)) 0 os e in
+    let quiet = any-less (markChangesOrder business today last agreement os) (changesOrder today last agreement os)
+    (λ i o. or-right (clockChanges business today o) (changesOrder today last agreement os i o)) 0 os e in
     ap (λ (a : Effect). followed a (evaluated calendar today)) (file-same f tidy (clock calendar today (f .premise) os) wound)
     ∙ evaluated-still calendar today last window f tidy quiet

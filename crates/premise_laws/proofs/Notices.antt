@@ -1,22 +1,23 @@
 -- Every notice carries the premise's number: each step makes its notices with it. Assumes nothing.
 use Prim.Native.Nat.{ℕ}
 use mathlib.Core.Path.{_≡_, refl}
-use mathlib.Core.List.{List}
+use mathlib.Core.List.{List, [], _∷_, _++_}
 use mathlib.Core.Option.{Option, none, some}
 use mathlib.Core.Bool.{Bool, true, false, cond}
+use lib.Dec.{eqb}
 use Rattle.lists.specs.Search.{Each}
 use Rattle.lists.specs.declared.Found.{Found}
 use Rattle.lists.specs.declared.Found.the-variants.{At, Nothing}
 use Rattle.days.specs.Days.{isBusinessDay}
 use Rattle.days.specs.Window.{windowWidth, inWindow}
 use Rattle.records.specs.declared.Record.{Record}
-use Rattle.records.specs.Records.{kindCreate, kindRetire, kindNewOrder, kindDayMark}
+use Rattle.records.specs.Records.{kindCreate, kindRetire, kindNewOrder, kindDayMark, kindAgreement, delete}
 use Rattle.premise.specs.declared.Order.{Order}
 use Rattle.premise.specs.declared.File.{File}
 use Rattle.premise.specs.Orders.{held}
-use Rattle.premise.specs.Passes.{Outcome, Effect, andThen, onFile}
+use Rattle.premise.specs.Passes.{Outcome, Effect, andThen, onFile, noticeOfNoOrder, codeAgreementRequest, codeAgreementResponse}
 use Rattle.premise.specs.Steps.{is, named, supplied, ordered, changed, onOrder, onScheduled, onPermit, onUnexecutable, onRead, onCancel}
-use Rattle.premise.specs.Steps.{onReply, onDateChange, onNamed}
+use Rattle.premise.specs.Steps.{onReply, onDateChange, onNamed, hasOtherHolder, agreed}
 use Rattle.premise.specs.Clock.{clock, ticked, reviewed, permitAwaited, cancelAwaited}
 use Rattle.premise.specs.Evaluation.{sameDaySwitches, sameDaySwitch, dropsOnSwitchDays, dropOnSwitchDay, permitsOvertaken, permitOvertaken}
 use Rattle.premise.specs.Evaluation.{lossNotices, lossNotice, evaluation, evaluated}
@@ -33,7 +34,7 @@ module _ (premise : ℕ) where
   unfolding ticked reviewed permitAwaited cancelAwaited
   ticked-of business today o = search speaking depth 10
 
-  module _ (near : ℕ → Bool) (today retailer : ℕ) (os : List Order) (i : ℕ) (o : Order) where
+  module _ (near : ℕ → Bool) (today retailer agreement : ℕ) (os : List Order) (i : ℕ) (o : Order) where
     same-day-of : Speaks premise (sameDaySwitch near premise os i o)
     unfolding sameDaySwitch
     same-day-of = search speaking
@@ -46,25 +47,29 @@ module _ (premise : ℕ) where
     unfolding permitOvertaken
     permit-of = search speaking
 
-    loss-of : Speaks premise (lossNotice near premise retailer o)
+    loss-of : Speaks premise (lossNotice near premise retailer agreement o)
     unfolding lossNotice
-    loss-of = search speaking
+    loss-of = search speaking depth 8
 
-  evaluation-of : (near : ℕ → Bool) (today retailer : ℕ) (os : List Order)
-      → Each (Of premise) (evaluation near today premise retailer os .notices)
-  unfolding evaluation
-  evaluation-of near today retailer os =
-      let one : Outcome = sameDaySwitches near premise os in
-      let two : Outcome = andThen one (dropsOnSwitchDays near premise retailer) in
-      let three : Outcome = andThen two (permitsOvertaken today premise) in
-      each-then (Of premise) three (lossNotices near premise retailer)
-      (each-then (Of premise) two (permitsOvertaken today premise)
-      (each-then (Of premise) one (dropsOnSwitchDays near premise retailer)
-      (each-pass (Of premise) (sameDaySwitch near premise os) (λ i o. same-day-of near today retailer os i o .all) 0 os)
-      (λ os. each-pass (Of premise) (λ (i : ℕ). dropOnSwitchDay near premise retailer os)
-      (λ i o. drop-of near today retailer os i o .all) 0 os))
-      (λ os. each-pass (Of premise) (λ (i : ℕ). permitOvertaken today premise os) (λ i o. permit-of near today retailer os i o .all) 0 os))
-      (λ os. each-pass (Of premise) (λ (i : ℕ). lossNotice near premise retailer) (λ i o. loss-of near today retailer os i o .all) 0 os)
+evaluation-of : (near : ℕ → Bool) (today : ℕ) (f : File) (os : List Order) → Each (Of (f .premise)) (evaluation near today f os .notices)
+unfolding evaluation
+evaluation-of near today f os =
+    let premise = f .premise in
+    let retailer = f .retailer in
+    let agreement = f .agreement in
+    let one : Outcome = sameDaySwitches near premise os in
+    let two : Outcome = andThen one (dropsOnSwitchDays near f) in
+    let three : Outcome = andThen two (permitsOvertaken today premise) in
+    each-then (Of premise) three (lossNotices near f)
+    (each-then (Of premise) two (permitsOvertaken today premise)
+    (each-then (Of premise) one (dropsOnSwitchDays near f)
+    (each-pass (Of premise) (sameDaySwitch near premise os) (λ i o. same-day-of premise near today retailer agreement os i o .all) 0 os)
+    (λ os. each-pass (Of premise) (λ (i : ℕ). dropOnSwitchDay near premise retailer os)
+    (λ i o. drop-of premise near today retailer agreement os i o .all) 0 os))
+    (λ os. each-pass (Of premise) (λ (i : ℕ). permitOvertaken today premise os)
+    (λ i o. permit-of premise near today retailer agreement os i o .all) 0 os))
+    (λ os. each-pass (Of premise) (λ (i : ℕ). lossNotice near premise retailer agreement)
+    (λ i o. loss-of premise near today retailer agreement os i o .all) 0 os)
 
 pub mark-notices : MarkNotices
 unfolding marked
@@ -72,7 +77,7 @@ mark-notices calendar today f =
     each-followed (Of (f .premise)) (onFile f (clock calendar today (f .premise) (held f))) (evaluated calendar today)
     (each-pass (Of (f .premise)) (λ (i : ℕ). ticked (isBusinessDay calendar today) today (f .premise))
     (λ i o. ticked-of (f .premise) (isBusinessDay calendar today) today o .all) 0 (held f))
-    (evaluation-of (f .premise) (inWindow calendar windowWidth today) today (f .retailer) _)
+    (evaluation-of (inWindow calendar windowWidth today) today _ _)
 
 -- ---- a record's own steps
 order-of : (calendar : List ℕ) (today : ℕ) (f : File) (r : Record) (o : Order) → Speaks (f .premise) (onNamed calendar today f r o)
@@ -109,7 +114,7 @@ evaluated-of : (calendar : List ℕ) (today premise : ℕ) (f : File) → f .pre
     → Each (Of premise) (evaluated calendar today f .notices)
 evaluated-of calendar today premise f e =
     of-same (evaluated calendar today f .notices) e
-    (evaluation-of (f .premise) (inWindow calendar windowWidth today) today (f .retailer) (held f))
+    (evaluation-of (inWindow calendar windowWidth today) today f (held f))
 
 stepped-of : (calendar : List ℕ) (today : ℕ) (f : File) (r : Record) → Each (Of (f .premise)) (stepped calendar today f r .notices)
 unfolding stepped
@@ -120,6 +125,18 @@ stepped-of calendar today f r =
     each-followed (Of (f .premise)) first (evaluated calendar today) (stays .notices)
     (evaluated-of calendar today (f .premise) (first .file) (stays .file))
 
+-- kind 12 tells of its premise, whatever the detail and the holder
+agreed-of : (f : File) (r : Record) → Each (Of (f .premise)) (agreed f r .notices)
+unfolding agreed
+agreed-of f r = by-test (λ (e : Effect). Each (Of (f .premise)) (e .notices)) (eqb (r .detail) delete) _ _ (λ d. (refl, tt))
+    (λ d. go (hasOtherHolder f r))
+  where
+    go : (other : Bool)
+        → Each (Of (f .premise)) (cond other (noticeOfNoOrder codeAgreementRequest (f .premise) (f .agreement) ∷ []) []
+        ++ (noticeOfNoOrder codeAgreementResponse (f .premise) (r .retailer) ∷ []))
+    go true = (refl, (refl, tt))
+    go false = (refl, tt)
+
 effect-of : (calendar : List ℕ) (today : ℕ) (file : Option File) (r : Record) (premise : ℕ) → Held (λ f. f .premise ≡ premise) file
     → Each (Of premise) (effectOn calendar today file r .notices)
 effect-of calendar today none r premise h =
@@ -128,7 +145,9 @@ effect-of calendar today (some f) r premise h =
     let P : Given → Type 0 = (λ g. Each (Of premise) (g .notices)) in
     by-test P (is kindRetire r) _ _ (λ e. tt) (λ e.
     by-test P (is kindDayMark r) _ _ (λ e. of-same (marked calendar (r .day) f .notices) h (mark-notices calendar (r .day) f))
-    (λ e. of-same (stepped calendar today f r .notices) h (stepped-of calendar today f r)))
+    (λ e. by-test (λ (a : Effect). Each (Of premise) (a .notices)) (is kindAgreement r) _ _
+    (λ t. of-same (agreed f r .notices) h (agreed-of f r))
+    (λ t. of-same (stepped calendar today f r .notices) h (stepped-of calendar today f r))))
 
 pub step-notices : StepNotices
 unfolding step

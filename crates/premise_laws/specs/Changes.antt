@@ -35,9 +35,9 @@ abbrev pub mayChange : ℕ → Order → Bool
 mayChange last o = hasStatus permitPending o || isScheduledOrCancelPending o && upTo last (o .scheduled)
 
 -- The evaluation changes the order at a place: it gives way in pass 1, is displaced in pass 2, overtaken in pass 3 or due in pass 4.
-unfoldable pub changesOrder : ℕ → ℕ → List Order → ℕ → Order → Bool
-changesOrder today last os i o =
-    givesWay (upTo last) os i o || isDisplaced (upTo last) os o || isOvertaken today os o || isDue (upTo last) o
+unfoldable pub changesOrder : ℕ → ℕ → ℕ → List Order → ℕ → Order → Bool
+changesOrder today last agreement os i o =
+    givesWay (upTo last) os i o || isDisplaced (upTo last) os o || isOvertaken today os o || isDue (upTo last) agreement o
 
 -- whether some order passes a test that goes by its place, the places counted from a number on
 abbrev pub anyAt : (ℕ → Order → Bool) → ℕ → List Order → Bool
@@ -45,16 +45,16 @@ anyAt p i [] = false
 anyAt p i (o ∷ os) = p i o || anyAt p (suc i) os
 
 -- The clock or the evaluation changes the order at a place.
-abbrev pub markChangesOrder : Bool → ℕ → ℕ → List Order → ℕ → Order → Bool
-markChangesOrder business today last os i o = clockChanges business today o || changesOrder today last os i o
+abbrev pub markChangesOrder : Bool → ℕ → ℕ → ℕ → List Order → ℕ → Order → Bool
+markChangesOrder business today last agreement os i o = clockChanges business today o || changesOrder today last agreement os i o
 
 -- A day mark changes some order.
-abbrev pub markChangesFile : Bool → ℕ → ℕ → List Order → Bool
-markChangesFile business today last os = anyAt (markChangesOrder business today last os) 0 os
+abbrev pub markChangesFile : Bool → ℕ → ℕ → File → Bool
+markChangesFile business today last f = anyAt (markChangesOrder business today last (f .agreement) (held f)) 0 (held f)
 
 -- A file without such an order is left alone by the day mark: clock and evaluation leave it as it is and send nothing.
 abbrev pub UnchangedStays : Type 0
 UnchangedStays =
     (calendar : List ℕ) (today last : ℕ) (f : File) → Tidy f → LastInWindow calendar windowWidth today last
-    → markChangesFile (isBusinessDay calendar today) today last (held f) ≡ false
+    → markChangesFile (isBusinessDay calendar today) today last f ≡ false
     → marked calendar today f ≡ record { file = f; notices = [] }

@@ -4,6 +4,8 @@ ghost use Prim.Native.Nat.{_≤_};
 ghost use Rattle.records.specs.Records.{wellFormed, kindScheduled, kindReply, orderDay, aRetailer};
 ghost use Rattle.records.specs.Kinds.{datedHolds};
 use days::LAST_DAY;
+use records::DELETE;
+use records::ESTABLISH;
 use records::LAST_RETAILER;
 use records::REPLY_ACCEPT;
 use records::REPLY_REJECT;
@@ -75,7 +77,8 @@ fn order_day_holds(kind: u8, day: u16) -> bool
 }
 
 // Dispatch on the record kind. A create uses the day, the premise, and a retailer or none; a retire the premise; a new order every field,
-// its detail the order kind; a day mark the day; a date change all but the detail, with a counter, which is not 0, in the retailer's place.
+// its detail the order kind; a day mark the day; a date change all but the detail, with a counter, which is not 0, in the retailer's place;
+// an agreement the premise and the retailer, its detail whether it is established or deleted.
 pub fn well_formed(fields: Record) -> bool
     ensures { λ r. ⌜ r ≡ wellFormed fields ⌝ }
 {
@@ -117,6 +120,14 @@ pub fn well_formed(fields: Record) -> bool
                 & (fields.reference != 0)
                 & (fields.premise != 0)
                 & (fields.retailer != 0)
+        },
+        record_kind::AGREEMENT => {
+            (ESTABLISH <= fields.detail)
+                & (fields.detail <= DELETE)
+                & (fields.day == 0)
+                & (fields.reference == 0)
+                & (fields.premise != 0)
+                & is_retailer(fields.retailer)
         },
         _ => false,
     }

@@ -4,7 +4,7 @@
 use borrow.Author.Needs.{needs}
 use native.Mathlib.Omega.{arith}
 use mathlib.Core.Path.{refl, sym}
-use Rattle.records.specs.Records.{kindCreate, kindRetire, kindNewOrder, kindDayMark, kindDateChange}
+use Rattle.records.specs.Records.{kindCreate, kindRetire, kindNewOrder, kindDayMark, kindDateChange, kindAgreement}
 use Rattle.records.proofs.ByKind.{formed-at, formed-past}
 use Rattle.record_bytes.proofs.well_formed.well_formed.Statement.{statement}
 use Rattle.record_bytes.proofs.well_formed.well_formed.Tie as tie
@@ -14,6 +14,9 @@ order-day-holds-requires c κs = search needs
 
 is-retailer-requires : tie.Need-is-retailer-requires
 is-retailer-requires c κs = search needs
+
+is-retailer-requires-2 : tie.Need-is-retailer-requires-2
+is-retailer-requires-2 c κs = search needs
 
 named-order-holds-requires : tie.Need-named-order-holds-requires
 named-order-holds-requires c κs = search needs
@@ -39,15 +42,18 @@ returns-5 : tie.Need-returns-5
 returns-5 c = sym (formed-at kindDateChange _ (c .before .before .before .before .before .match .keys5))
 
 returns-6 : tie.Need-returns-6
-returns-6 c = search needs
+returns-6 c = rw (c .is-retailer2 .ensures) (sym (formed-at kindAgreement _ (omega arith)))
 
 returns-7 : tie.Need-returns-7
-returns-7 c = sym (formed-at 0 _ (omega arith))
+returns-7 c = search needs
 
 returns-8 : tie.Need-returns-8
-returns-8 c = sym (formed-past _ (omega arith))
+returns-8 c = sym (formed-at 0 _ (omega arith))
+
+returns-9 : tie.Need-returns-9
+returns-9 c = sym (formed-past _ (omega arith))
 
 pub well-formed-spec : {M : Type 1} → statement M
 well-formed-spec =
-    tie.close (tie.spec order-day-holds-requires is-retailer-requires named-order-holds-requires returns returns-2 returns-3 returns-4
-    returns-5 returns-6 returns-7 returns-8)
+    tie.close (tie.spec order-day-holds-requires is-retailer-requires is-retailer-requires-2 named-order-holds-requires returns returns-2
+    returns-3 returns-4 returns-5 returns-6 returns-7 returns-8 returns-9)

@@ -27,12 +27,13 @@ fn blank_order() -> Order
     }
 }
 
-// A file without orders.
+// A file without orders and without an agreement.
 fn empty_file(premise: u64, retailer: u32, since: u16) -> File
     ensures { λ r. ⌜ r ≡ record {
       premise = premise;
       retailer = retailer;
       since = since;
+      agreement = 0;
       count = 0;
       orders = replicate mostOrders blank;
     } ⌝ }
@@ -42,6 +43,7 @@ fn empty_file(premise: u64, retailer: u32, since: u16) -> File
         premise: premise,
         retailer: retailer,
         since: since,
+        agreement: 0,
         count: 0,
         orders: [none; premise::MOST_ORDERS],
     }

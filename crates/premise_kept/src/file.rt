@@ -11,6 +11,7 @@ pub fn file_kept(file: File) -> bool
     if !((file.premise != 0)
         & (file.retailer <= records::LAST_RETAILER)
         & (file.since <= days::LAST_DAY)
+        & (file.agreement <= records::LAST_RETAILER)
         & (file.count <= premise::MOST_ORDERS)) {
         return false;
     }

@@ -25,7 +25,11 @@ pub fn is_blank(o: Order) -> bool
 pub fn file_blank(file: File) -> bool
     ensures { λ r. ⌜ r ≡ fileBlank file ⌝ }
 {
-    if !((file.premise == 0) & (file.retailer == 0) & (file.since == 0) & (file.count == 0)) {
+    if !((file.premise == 0)
+        & (file.retailer == 0)
+        & (file.since == 0)
+        & (file.agreement == 0)
+        & (file.count == 0)) {
         return false;
     }
     let mut i: usize = 0;

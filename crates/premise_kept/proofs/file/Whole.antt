@@ -14,15 +14,16 @@ use Rattle.premise.specs.Orders.{mostOrders, held}
 use Rattle.premise.specs.WellKept.{orderKept, distinct, isBlank, fileKept}
 
 module _ (f : File) where
+  -- the fields besides the orders and their number
+  abbrev fieldsKept : Bool
+  fieldsKept = aPremise (f .premise) && aRetailerOrNone (f .retailer) && isDay (f .since) && aRetailerOrNone (f .agreement)
+
   -- the fields besides the orders
   abbrev pub headKept : Bool
-  headKept = aPremise (f .premise) && aRetailerOrNone (f .retailer) && isDay (f .since) && leb (f .count) mostOrders
+  headKept = fieldsKept && leb (f .count) mostOrders
 
   pub head-few : not headKept ≡ false → f .count ≤ mostOrders
-  head-few e =
-      leb-true (f .count) mostOrders
-      (and-right (aPremise (f .premise) && aRetailerOrNone (f .retailer) && isDay (f .since)) (leb (f .count) mostOrders)
-      (not-false headKept e))
+  head-few e = leb-true (f .count) mostOrders (and-right fieldsKept (leb (f .count) mostOrders) (not-false headKept e))
 
   -- ---- the whole: a part that fails
   pub kept-no-head : not headKept ≡ true → false ≡ fileKept f

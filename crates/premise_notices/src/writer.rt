@@ -1,7 +1,7 @@
-// A notice on an order, and the writer that puts it behind those that stand in the buffer.
+// A notice on an order or on none, and the writer that puts it behind those that stand in the buffer.
 ghost use mathlib.Core.Path.{_≡_};
 ghost use mathlib.Core.List.{[], _∷_};
-ghost use Rattle.premise.specs.Passes.{dayIn, notice};
+ghost use Rattle.premise.specs.Passes.{dayIn, notice, noticeOfNoOrder};
 ghost use Rattle.premise.specs.Promises.{Room, Writes};
 use premise::Order;
 use records::Notice;
@@ -25,6 +25,12 @@ pub const CODE_REJECT: u8 = 8;
 
 pub const CODE_DATE_CHANGE: u8 = 9;
 
+pub const CODE_AGREEMENT_REQUEST: u8 = 10;
+
+pub const CODE_AGREEMENT_RESPONSE: u8 = 11;
+
+pub const CODE_AGREEMENT_MOVE_IN: u8 = 12;
+
 // A notice on an order. Its day is the requested one where the order is new or its date is changed, and else the scheduled one.
 pub fn notice_on(code: u8, premise: u64, addressee: u32, o: Order) -> Notice
     ensures { λ r. ⌜ r ≡ notice code premise addressee o ⌝ }
@@ -47,6 +53,20 @@ fn day_in(code: u8, o: Order) -> u16
         return o.requested;
     }
     o.scheduled
+}
+
+// A notice on a premise's agreement, which is on no order.
+pub fn notice_of_no_order(code: u8, premise: u64, addressee: u32) -> Notice
+    ensures { λ r. ⌜ r ≡ noticeOfNoOrder code premise addressee ⌝ }
+{
+    Notice {
+        code: code,
+        kind: 0,
+        day: 0,
+        reference: 0,
+        premise: premise,
+        addressee: addressee,
+    }
 }
 
 // Writes a notice behind those that stand in the buffer: the part from there on is lent to the writer. Returns how many stand there then.

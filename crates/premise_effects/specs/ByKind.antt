@@ -14,11 +14,7 @@ use Rattle.premise.specs.Orders.{inReview, scheduled, complete, cancelled, hasS
 use Rattle.premise.specs.Passes.{Change, codeScheduled, codeCancel, codePermit, codeUnexecutable, codeReject, notice}
 use Rattle.premise.specs.Steps.{is, onOrder}
 
--- an order as it is left, and one notice on it
-abbrev pub telling : ℕ → ℕ → ℕ → Order → Change
-telling code premise addressee o = record { order = o; notices = notice code premise addressee o ∷ [] }
-
--- and then a second, of the same code
+-- an order as it is left, and two notices on it of one code
 abbrev pub tellingBoth : ℕ → ℕ → ℕ → ℕ → Order → Change
 tellingBoth code premise first second o = record { order = o; notices = notice code premise first o ∷ notice code premise second o ∷ [] }
 

@@ -2,11 +2,11 @@
 ghost use mathlib.Core.Path.{_≡_};
 ghost use Rattle.premise.specs.Steps.{redated, onDateChange};
 ghost use Rattle.premise.specs.Promises.{Room, DoneToOrder};
-use crate::telling::tell;
 use premise::File;
 use premise::Order;
 use premise::OrderAfter;
 use premise_notices::CODE_DATE_CHANGE;
+use premise_notices::tell;
 use records::Record;
 
 // The order with its new date: In Review again, without a scheduled day, its wait begun today, nobody told of it, the counter kept.

@@ -3,7 +3,6 @@ mod changes;
 mod date_change;
 mod on_order;
 mod supplier;
-mod telling;
 
 pub use changes::change_order;
 pub use supplier::supply;

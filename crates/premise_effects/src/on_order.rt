@@ -4,7 +4,6 @@ ghost use Rattle.premise.specs.Orders.{withStatus, withPending};
 ghost use Rattle.premise.specs.Steps.{onOrder};
 ghost use Rattle.premise.specs.Promises.{Room, DoneToOrder};
 ghost use Rattle.premise_effects.specs.ByKind.{LeftBy, asRead, repliedStatus, codeOf, addresseeOf};
-use crate::telling::tell;
 use premise::BusinessDays;
 use premise::CANCEL_PENDING;
 use premise::CANCELLED;
@@ -22,6 +21,7 @@ use premise_notices::CODE_PERMIT;
 use premise_notices::CODE_REJECT;
 use premise_notices::CODE_SCHEDULED;
 use premise_notices::CODE_UNEXECUTABLE;
+use premise_notices::tell;
 use records::Record;
 use records::record_kind;
 

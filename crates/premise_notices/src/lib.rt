@@ -1,10 +1,12 @@
 // Notices on orders and agreements: made, written behind those that stand in the buffer, and an order's cancellation with its notices.
 mod cancelling;
+mod telling;
 mod writer;
 
 pub use cancelling::as_cancelled;
 pub use cancelling::cancel;
 pub use cancelling::send_cancel;
+pub use telling::tell;
 pub use writer::CODE_AGREEMENT_MOVE_IN;
 pub use writer::CODE_AGREEMENT_REQUEST;
 pub use writer::CODE_AGREEMENT_RESPONSE;

@@ -15,7 +15,8 @@ use Rattle.premise.specs.Orders.{hasKind, noRetailer}
 use Rattle.premise.specs.Passes.{codeDateChange}
 use Rattle.premise.specs.Promises.{Room}
 use Rattle.premise.specs.Steps.{redated, onDateChange}
-use Rattle.premise_effects.specs.ByKind.{telling, tellingBoth}
+use Rattle.premise_notices.specs.Telling.{telling}
+use Rattle.premise_effects.specs.ByKind.{tellingBoth}
 
 -- whether the premise's retailer hears of it too
 abbrev hearsToo : File → Order → Bool

@@ -13,7 +13,8 @@ use Rattle.premise.specs.Passes.{Change, same, notice}
 use Rattle.premise.specs.Promises.{Room}
 use Rattle.premise.specs.Steps.{onScheduled, onPermit, onUnexecutable, onRead, onCancel, onReply, onOrder}
 use Rattle.premise_laws.proofs.OrderDone.{room-case}
-use Rattle.premise_effects.specs.ByKind.{telling, tellingBoth, LeftBy, hearsToo, codeOf, addresseeOf}
+use Rattle.premise_notices.specs.Telling.{telling}
+use Rattle.premise_effects.specs.ByKind.{tellingBoth, LeftBy, hearsToo, codeOf, addresseeOf}
 use Rattle.premise_effects.proofs.on_order.ByKind.{by-equal, on-reply}
 
 -- the order as it is left, and the notices on it

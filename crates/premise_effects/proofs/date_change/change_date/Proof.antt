@@ -1,7 +1,7 @@
 -- `change_date` meets its contract: one notice, and a second where the premise's retailer hears of it too. Assumes nothing.
 use borrow.Author.Needs.{needs}
 use Rattle.premise_laws.proofs.OrderDone.{done-case}
-use Rattle.premise_effects.proofs.telling.Both.{second-room, done-both}
+use Rattle.premise_effects.proofs.Both.{second-room, done-both}
 use Rattle.premise_effects.proofs.date_change.Notices.{told-once, told-twice, first-room}
 use Rattle.premise_effects.proofs.date_change.change_date.Statement.{statement}
 use Rattle.premise_effects.proofs.date_change.change_date.Tie as tie

@@ -2,7 +2,7 @@
 -- hears of it too. Assumes nothing.
 use borrow.Author.Needs.{needs}
 use Rattle.premise_laws.proofs.OrderDone.{done-case, done-none}
-use Rattle.premise_effects.proofs.telling.Both.{second-room, done-both}
+use Rattle.premise_effects.proofs.Both.{second-room, done-both}
 use Rattle.premise_effects.proofs.on_order.Notices.{on-read, told-once, told-twice, first-room}
 use Rattle.premise_effects.proofs.on_order.change_status.Statement.{statement}
 use Rattle.premise_effects.proofs.on_order.change_status.Tie as tie

@@ -1,10 +1,10 @@
-// A notice on an order as a record leaves it.
+// An order with a notice on it.
 ghost use Rattle.premise.specs.Promises.{Room, DoneToOrder};
-ghost use Rattle.premise_effects.specs.ByKind.{telling};
+ghost use Rattle.premise_notices.specs.Telling.{telling};
 use premise::Order;
 use premise::OrderAfter;
 
-// An order as a record leaves it, and one notice on it.
+// An order as it is left, and one notice on it.
 pub fn tell(
     code: u8,
     premise: u64,
@@ -16,8 +16,8 @@ pub fn tell(
     requires { ⌜ Room standing (telling code premise addressee o .notices) (now buffer) ⌝ }
     ensures { λ s. ⌜ DoneToOrder (telling code premise addressee o) standing s (now (buffer .entry)) (now (buffer .exit)) ⌝ }
 {
-    let n = premise_notices::notice_on(code, premise, addressee, o);
-    let sent = premise_notices::send(standing, n, buffer);
+    let n = crate::writer::notice_on(code, premise, addressee, o);
+    let sent = crate::writer::send(standing, n, buffer);
     OrderAfter {
         order: o,
         sent: sent,

@@ -8,7 +8,8 @@ use Rattle.premise.specs.Passes.{Change, notice}
 use Rattle.premise.specs.Promises.{Room, DoneToOrder}
 use Rattle.premise_laws.proofs.Writes.{room-then, writes-then}
 use Rattle.premise_laws.proofs.OrderDone.{room-case, done-case}
-use Rattle.premise_effects.specs.ByKind.{telling, tellingBoth}
+use Rattle.premise_notices.specs.Telling.{telling}
+use Rattle.premise_effects.specs.ByKind.{tellingBoth}
 
 module _ (change : Change) (code premise first second : ℕ) (t : Order) (standing : ℕ) (b : List ℕ)
     (e : change ≡ tellingBoth code premise first second t) (room : Room standing (change .notices) b)

@@ -5,8 +5,8 @@ use borrow.Author.Needs.{needs}
 use Rattle.records.specs.declared.Notice.{Notice}
 use Rattle.premise.specs.Passes.{Change}
 use Rattle.premise_laws.proofs.OrderDone.{done-one}
-use Rattle.premise_effects.proofs.telling.tell.Statement.{statement}
-use Rattle.premise_effects.proofs.telling.tell.Tie as tie
+use Rattle.premise_notices.proofs.telling.tell.Statement.{statement}
+use Rattle.premise_notices.proofs.telling.tell.Tie as tie
 
 notice-on-requires : tie.Need-notice-on-requires
 notice-on-requires c κs = search needs

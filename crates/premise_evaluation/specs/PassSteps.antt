@@ -11,13 +11,13 @@ use Rattle.premise_evaluation.specs.declared.passes.Pass.{Pass}
 use Rattle.premise_evaluation.specs.declared.passes.Pass.the-variants.{SameDaySwitches, DropsOnSwitchDays, PermitsOvertaken}
 use Rattle.premise_evaluation.specs.declared.passes.Pass.the-variants.{LossNotices}
 
--- by the premise's number, its retailer and its orders
-abbrev pub stepBy : Pass → (ℕ → Bool) → ℕ → ℕ → ℕ → List Order → ℕ → Order → Change
-stepBy SameDaySwitches near today premise retailer os i = sameDaySwitch near premise os i
-stepBy DropsOnSwitchDays near today premise retailer os i = dropOnSwitchDay near premise retailer os
-stepBy PermitsOvertaken near today premise retailer os i = permitOvertaken today premise os
-stepBy LossNotices near today premise retailer os i = lossNotice near premise retailer
+-- by the file, and its orders as the pass finds them
+abbrev pub stepBy : Pass → (ℕ → Bool) → ℕ → File → List Order → ℕ → Order → Change
+stepBy SameDaySwitches near today f os i = sameDaySwitch near (f .premise) os i
+stepBy DropsOnSwitchDays near today f os i = dropOnSwitchDay near (f .premise) (f .retailer) os
+stepBy PermitsOvertaken near today f os i = permitOvertaken today (f .premise) os
+stepBy LossNotices near today f os i = lossNotice near (f .premise) (f .retailer) (f .agreement)
 
--- the same by its file
+-- by the file alone
 abbrev pub stepOf : Pass → (ℕ → Bool) → ℕ → File → ℕ → Order → Change
-stepOf which near today f = stepBy which near today (f .premise) (f .retailer) (held f)
+stepOf which near today f = stepBy which near today f (held f)

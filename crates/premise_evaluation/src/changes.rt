@@ -19,12 +19,12 @@ pub fn may_change_order(last: u16, o: Order) -> bool
 // copies it.
 pub fn changes_order(today: u16, last: u16, file: File, i: usize, o: Order) -> bool
     requires { ⌜ Tidy file ⌝ }
-    ensures { λ r. ⌜ r ≡ changesOrder today last (held file) i o ⌝ }
+    ensures { λ r. ⌜ r ≡ changesOrder today last (file .agreement) (held file) i o ⌝ }
 {
     if o.status == premise::PERMIT_PENDING {
         return crate::permit_overtaken::is_overtaken(today, file, o);
     }
-    if crate::loss_notice::is_due(last, o) {
+    if crate::loss_notice::is_due(last, file.agreement, o) {
         return true;
     }
     if crate::order_tests::is_switch(o) {
@@ -39,7 +39,7 @@ pub fn changes_order(today: u16, last: u16, file: File, i: usize, o: Order) -> b
 // Whether a file has an order that the evaluation changes.
 pub fn changes_file(today: u16, last: u16, file: File) -> bool
     requires { ⌜ Tidy file ⌝ }
-    ensures { λ r. ⌜ r ≡ anyAt (changesOrder today last (held file)) 0 (held file) ⌝ }
+    ensures { λ r. ⌜ r ≡ anyAt (changesOrder today last (file .agreement) (held file)) 0 (held file) ⌝ }
 {
     let n = file.count;
     let mut i: usize = 0;

@@ -1,17 +1,22 @@
-// Pass 4: the retailer that loses the premise by an order is told once.
+// Pass 4: the retailer that loses the premise by an order is told once, or, of a move out, the one that gets it by the owner's agreement.
 ghost use mathlib.Core.Path.{_≡_};
 ghost use Rattle.days.specs.Window.{upTo};
 ghost use Rattle.premise.specs.Evaluation.{isDue, lossNotice};
 ghost use Rattle.premise.specs.Promises.{Room, DoneToOrder};
 use premise::Order;
 use premise::OrderAfter;
+use premise_notices::CODE_AGREEMENT_MOVE_IN;
+use premise_notices::CODE_LOSING;
+use premise_notices::tell;
+use records::order_kind::MOVE_OUT;
 
-// Whether an order is Scheduled and in window, not a move out, and the retailer that it takes the premise from has not been told.
-pub fn is_due(last: u16, o: Order) -> bool
-    ensures { λ r. ⌜ r ≡ isDue (upTo last) o ⌝ }
+// Whether an order is Scheduled and in window, and a retailer is still to be told of it. Of a move out there is one to be told only where
+// there is an agreement.
+pub fn is_due(last: u16, agreement: u32, o: Order) -> bool
+    ensures { λ r. ⌜ r ≡ isDue (upTo last) agreement o ⌝ }
 {
     (o.status == premise::SCHEDULED)
-        & (o.kind != records::order_kind::MOVE_OUT)
+        & ((o.kind != MOVE_OUT) | (agreement != premise::NOBODY))
         & (o.told == 0)
         & (o.scheduled <= last)
 }
@@ -21,14 +26,15 @@ pub fn tell_losing_retailer(
     last: u16,
     premise: u64,
     retailer: u32,
+    agreement: u32,
     o: Order,
     standing: usize,
     buffer: &mut [u8],
 ) -> OrderAfter
-    requires { ⌜ Room standing (lossNotice (upTo last) premise retailer o .notices) (now buffer) ⌝ }
-    ensures { λ r. ⌜ DoneToOrder (lossNotice (upTo last) premise retailer o) standing r (now (buffer .entry)) (now (buffer .exit)) ⌝ }
+    requires { ⌜ Room standing (lossNotice (upTo last) premise retailer agreement o .notices) (now buffer) ⌝ }
+    ensures { λ r. ⌜ DoneToOrder (lossNotice (upTo last) premise retailer agreement o) standing r (now (buffer .entry)) (now (buffer .exit)) ⌝ }
 {
-    if !is_due(last, o) {
+    if !is_due(last, agreement, o) {
         return OrderAfter {
             order: o,
             sent: standing,
@@ -36,16 +42,21 @@ pub fn tell_losing_retailer(
     }
     let mut t = o;
     t.told = 1;
+    if o.kind == MOVE_OUT {
+        return tell(
+            CODE_AGREEMENT_MOVE_IN,
+            premise,
+            agreement,
+            t,
+            standing,
+            buffer,
+        );
+    }
     if (retailer == premise::NOBODY) | (retailer == o.submitter) {
         return OrderAfter {
             order: t,
             sent: standing,
         };
     }
-    let notice = premise_notices::notice_on(premise_notices::CODE_LOSING, premise, retailer, t);
-    let sent = premise_notices::send(standing, notice, buffer);
-    OrderAfter {
-        order: t,
-        sent: sent,
-    }
+    tell(CODE_LOSING, premise, retailer, t, standing, buffer)
 }

@@ -62,6 +62,7 @@ fn change(
             last,
             file.premise,
             file.retailer,
+            file.agreement,
             o,
             standing,
             buffer,

@@ -1,6 +1,6 @@
 -- The evaluation of a file, pass by pass: what each asks, and what the last one gives. Assumes nothing.
 use Prim.Native.Nat.{ℕ}
-use mathlib.Core.Path.{_≡_, sym, ap, subst, subst⁻¹, _∙_}
+use mathlib.Core.Path.{_≡_, refl, sym, ap, subst, subst⁻¹, _∙_}
 use mathlib.Core.List.{List, _++_}
 use mathlib.Core.Bool.{Bool}
 use Rattle.days.specs.Window.{upTo}
@@ -21,24 +21,22 @@ use Rattle.premise_evaluation.specs.declared.passes.Pass.the-variants.{L
 use Rattle.premise_evaluation.specs.PassSteps.{stepBy}
 use Rattle.premise_laws.proofs.Then.{then-first, then-room, then-done, pass-tidy}
 
--- what is done to a file by its number, its retailer and its orders
-abbrev pub doing : (ℕ → ℕ → List Order → Outcome) → File → Effect
-doing work f = onFile f (work (f .premise) (f .retailer) (held f))
+-- what is done to a file by its orders and its other fields
+abbrev pub doing : (File → List Order → Outcome) → File → Effect
+doing work f = onFile f (work f (held f))
 
 -- a pass of those that there are
-abbrev pub passOf : Pass → (ℕ → Bool) → ℕ → ℕ → ℕ → List Order → Outcome
-passOf which near today premise retailer os = pass (stepBy which near today premise retailer os) os
+abbrev pub passOf : Pass → (ℕ → Bool) → ℕ → File → List Order → Outcome
+passOf which near today f os = pass (stepBy which near today f os) os
 
--- one after another on the orders is one after another on the file
-doing-then : (first next : ℕ → ℕ → List Order → Outcome) (f : File)
-    → doing (λ (premise retailer : ℕ) (os : List Order). andThen (first premise retailer os) (next premise retailer)) f
-    ≡ followed (doing first f) (doing next)
-doing-then first next f =
-    let a = first (f .premise) (f .retailer) (held f) in
-    ap {B = Effect} (λ (os : List Order). record {
-      file = withOrders f (next (f .premise) (f .retailer) os .orders);
-      notices = a .notices ++ next (f .premise) (f .retailer) os .notices;
-    }) (sym (held-with f (a .orders)))
+-- one after another on the orders is one after another on the file, where the second asks the file for no orders
+doing-then : (first next : File → List Order → Outcome) → ((f : File) (os left : List Order) → next (withOrders f left) os ≡ next f os)
+    → (f : File) → doing (λ (g : File) (os : List Order). andThen (first g os) (next g)) f ≡ followed (doing first f) (doing next)
+doing-then first next fields f =
+    let a = first f (held f) in
+    let left = withOrders f (a .orders) in
+    ap {B = Effect} (λ (done : Outcome). record { file = withOrders f (done .orders); notices = a .notices ++ done .notices })
+    (sym (fields f (held left) (a .orders) ∙ ap (next f) (held-with f (a .orders))))
 
 -- the evaluation of a file is its four passes, one after another
 module _ (near : ℕ → Bool) (today : ℕ) where
@@ -54,17 +52,15 @@ module _ (near : ℕ → Bool) (today : ℕ) where
   pub evaluated-through : (f : File) → evaluatedBy near today f ≡ throughLosses f
   unfolding evaluation
   evaluated-through f =
-      let two : ℕ → ℕ → List Order → Outcome =
-      λ (premise retailer : ℕ) (os : List Order). andThen (passOf SameDaySwitches near today premise retailer os)
-      (passOf DropsOnSwitchDays near today premise retailer) in
-      let three : ℕ → ℕ → List Order → Outcome =
-      λ (premise retailer : ℕ) (os : List Order). andThen (two premise retailer os)
-      (passOf PermitsOvertaken near today premise retailer) in
-      doing-then three (passOf LossNotices near today) f
+      let two : File → List Order → Outcome =
+      λ (g : File) (os : List Order). andThen (passOf SameDaySwitches near today g os) (passOf DropsOnSwitchDays near today g) in
+      let three : File → List Order → Outcome =
+      λ (g : File) (os : List Order). andThen (two g os) (passOf PermitsOvertaken near today g) in
+      doing-then three (passOf LossNotices near today) (λ g os left. refl) f
       ∙ ap (λ (e : Effect). followed e (doing (passOf LossNotices near today)))
-      (doing-then two (passOf PermitsOvertaken near today) f
+      (doing-then two (passOf PermitsOvertaken near today) (λ g os left. refl) f
       ∙ ap (λ (e : Effect). followed e (doing (passOf PermitsOvertaken near today)))
-      (doing-then (passOf SameDaySwitches near today) (passOf DropsOnSwitchDays near today) f))
+      (doing-then (passOf SameDaySwitches near today) (passOf DropsOnSwitchDays near today) (λ g os left. refl) f))
 
 -- ---- what each pass asks, and what the last one gives
 module _ {calendar : List ℕ} {today last : ℕ} {f : File} {standing : ℕ} {b : List ℕ}
@@ -73,7 +69,7 @@ module _ {calendar : List ℕ} {today last : ℕ} {f : File} {standing : ℕ} {b
   run which = doing (passOf which (upTo last) today)
 
   abbrev step : Pass → File → ℕ → Order → Change
-  step which g = stepBy which (upTo last) today (g .premise) (g .retailer) (held g)
+  step which g = stepBy which (upTo last) today g (held g)
 
   -- by the last day in window
   through : evaluated calendar today f ≡ throughLosses (upTo last) today f

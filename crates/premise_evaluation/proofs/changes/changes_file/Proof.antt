@@ -17,8 +17,8 @@ use Rattle.premise_evaluation.proofs.changes.changes_file.Tie as tie
 
 abbrev Inv-loop : tie.InvT-loop
 Inv-loop today last file n i₀ i =
-    (i ≤ n) × (anyAt (changesOrder today last (held file)) i (drop i (held file))
-    ≡ anyAt (changesOrder today last (held file)) 0 (held file))
+    (i ≤ n) × (anyAt (changesOrder today last (file .agreement) (held file)) i (drop i (held file))
+    ≡ anyAt (changesOrder today last (file .agreement) (held file)) 0 (held file))
 
 abbrev μ-loop : tie.MeasureT-loop
 μ-loop today last file n i₀ i = n - i
@@ -27,7 +27,7 @@ abbrev μ-loop : tie.MeasureT-loop
 abbrev test : tie.At-loop Inv-loop μ-loop → ℕ → Order → Bool
 test l =
     let a = l .before .args in
-    changesOrder (a .today) (a .last) (held (a .t3))
+    changesOrder (a .today) (a .last) (a .t3 .agreement) (held (a .t3))
 
 loop-holds : tie.Need-loop-holds Inv-loop μ-loop
 loop-holds c = (omega arith, refl)
@@ -80,7 +80,7 @@ loop-again-2 c =
     let s = l .before in (
       search needs,
       at-next (test l) (s .args .t3) (s .pre) (l .loop .i) (l .loop .inv .1) (search needs)
-          (changes-not _ _ _ _ _ (sym (m .may-change-order .ensures) ∙ c .if1 .left)),
+          (changes-not _ _ _ _ _ _ (sym (m .may-change-order .ensures) ∙ c .if1 .left)),
     )
 
 returns-2 : tie.Need-returns-2 Inv-loop μ-loop

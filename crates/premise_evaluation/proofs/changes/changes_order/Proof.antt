@@ -18,7 +18,7 @@ is-overtaken-requires c κs = search needs
 returns : tie.Need-returns
 returns c =
     let a = c .before .before .before .args in
-    c .is-overtaken .ensures ∙ changes-permit (a .today) (a .last) (held (a .file)) (a .i) (a .o) (c .before .if1 .taken)
+    c .is-overtaken .ensures ∙ changes-permit (a .today) (a .last) (a .file .agreement) (held (a .file)) (a .i) (a .o) (c .before .if1 .taken)
 
 is-due-requires : tie.Need-is-due-requires
 is-due-requires c κs = search needs
@@ -27,7 +27,7 @@ returns-2 : tie.Need-returns-2
 returns-2 c =
     let w = c .before in
     let a = w .before .before .before .args in
-    changes-due (a .today) (a .last) (held (a .file)) (a .i) (a .o) (sym (w .is-due .ensures) ∙ c .if2 .taken)
+    changes-due (a .today) (a .last) (a .file .agreement) (held (a .file)) (a .i) (a .o) (sym (w .is-due .ensures) ∙ c .if2 .taken)
 
 is-switch-requires : tie.Need-is-switch-requires
 is-switch-requires c κs = search needs
@@ -38,12 +38,12 @@ gives-way-requires c κs = search needs
 -- a switch, by what `gives_way` answered
 a-switch : (t : tie.Then3) → let a = t .before .before .before .before .before .before .args in
     (answer : Bool) → answer ≡ givesWay (upTo (a .last)) (held (a .file)) (a .i) (a .o)
-    → answer ≡ changesOrder (a .today) (a .last) (held (a .file)) (a .i) (a .o)
+    → answer ≡ changesOrder (a .today) (a .last) (a .file .agreement) (held (a .file)) (a .i) (a .o)
 a-switch t answer said =
     let e = t .before .before in
     let w = e .before in
     let a = w .before .before .before .args in
-    said ∙ changes-switch (a .today) (a .last) (held (a .file)) (a .i) (a .o) (w .before .if1 .left)
+    said ∙ changes-switch (a .today) (a .last) (a .file .agreement) (held (a .file)) (a .i) (a .o) (w .before .if1 .left)
     (sym (w .is-due .ensures) ∙ e .if2 .left)
     (sym (t .before .is-switch .ensures) ∙ t .if3 .taken)
 
@@ -53,13 +53,13 @@ returns-3 c = a-switch (c .before) (c .gives-way .result) (c .gives-way .ensures
 -- any other order, by whether it is displaced
 no-switch : (t : tie.Else3) → let a = t .before .before .before .before .before .before .args in
     (answer : Bool) → answer ≡ isDisplaced (upTo (a .last)) (held (a .file)) (a .o)
-    → answer ≡ changesOrder (a .today) (a .last) (held (a .file)) (a .i) (a .o)
+    → answer ≡ changesOrder (a .today) (a .last) (a .file .agreement) (held (a .file)) (a .i) (a .o)
 no-switch t answer said =
     let e = t .before .before in
     let w = e .before in
     let a = w .before .before .before .args in
     said
-    ∙ changes-other (a .today) (a .last) (held (a .file)) (a .i) (a .o) (w .before .if1 .left) (sym (w .is-due .ensures) ∙ e .if2 .left)
+    ∙ changes-other (a .today) (a .last) (a .file .agreement) (held (a .file)) (a .i) (a .o) (w .before .if1 .left) (sym (w .is-due .ensures) ∙ e .if2 .left)
     (sym (t .before .is-switch .ensures) ∙ t .if3 .left)
 
 returns-4 : tie.Need-returns-4

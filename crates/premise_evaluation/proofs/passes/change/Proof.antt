@@ -12,7 +12,7 @@ use Rattle.premise_evaluation.proofs.passes.change.Tie as tie
 
 -- what a pass does to the order that was handed in
 abbrev by : tie.Start → Pass → Change
-by s w = let a = s .args in stepBy w (upTo (a .last)) (a .today) (a .file .premise) (a .file .retailer) (held (a .file)) (a .i) (a .o)
+by s w = let a = s .args in stepBy w (upTo (a .last)) (a .today) (a .file) (held (a .file)) (a .i) (a .o)
 
 enum-told : tie.Need-enum-told
 enum-told c = search needs

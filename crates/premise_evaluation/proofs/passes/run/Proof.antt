@@ -3,15 +3,14 @@
 use Prim.Native.Nat.{_-_}
 use borrow.Author.Needs.{needs}
 use Rattle.days.specs.Window.{upTo}
-use Rattle.premise.specs.Orders.{held}
-use Rattle.premise_evaluation.specs.PassSteps.{stepBy}
+use Rattle.premise_evaluation.specs.PassSteps.{stepOf}
 use Rattle.premise_laws.proofs.PassTurns.{Sofar, sofar-none, sofar-length, sofar-room, sofar-turn, sofar-all}
 use Rattle.premise_evaluation.proofs.passes.run.Statement.{statement}
 use Rattle.premise_evaluation.proofs.passes.run.Tie as tie
 
 abbrev Inv-loop : tie.InvT-loop
 Inv-loop which today last standing buffer₀ file n out₀ sent₀ i₀ buffer out sent i =
-    Sofar (stepBy which (upTo last) today (file .premise) (file .retailer) (held file)) file standing buffer₀ i sent out buffer
+    Sofar (stepOf which (upTo last) today file) file standing buffer₀ i sent out buffer
 
 abbrev μ-loop : tie.MeasureT-loop
 μ-loop which today last standing buffer₀ file n out₀ sent₀ i₀ buffer out sent i = n - i

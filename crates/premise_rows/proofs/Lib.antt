@@ -1,2 +1,3 @@
+pub mod AgreementAnswers
 pub mod NamedAnswers
 pub mod NewOrderAnswers

@@ -9,7 +9,7 @@ use Rattle.lists.specs.declared.Found.the-variants.{At, Nothing}
 use Rattle.days.specs.Window.{windowWidth, inWindow, upTo, LastInWindow}
 use Rattle.days.proofs.LastInWindow.{window-is-up-to}
 use Rattle.records.specs.declared.Record.{Record}
-use Rattle.records.specs.Records.{kindCreate, kindRetire, kindNewOrder, kindDayMark}
+use Rattle.records.specs.Records.{kindCreate, kindRetire, kindNewOrder, kindDayMark, kindAgreement}
 use Rattle.premise.specs.declared.Order.{Order}
 use Rattle.premise.specs.declared.File.{File}
 use Rattle.premise.specs.declared.Answer.the-variants.{Accepted, NoSuchOrder, StatusNotTaken, CounterNotAbove, OrderInWindow}
@@ -62,6 +62,7 @@ module _ (calendar : List ℕ) (today : ℕ) (f : File) (r : Record) (names : na
         names-other r kindRetire refl names,
         names-other r kindNewOrder refl names,
         names-other r kindDayMark refl names,
+        names-other r kindAgreement refl names,
       )
 
   pub missing-answer : named r (held f) ≡ Nothing → firstRow (rows calendar today (some f) r) ≡ NoSuchOrder

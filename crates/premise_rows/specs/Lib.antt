@@ -1,2 +1,3 @@
+pub mod AgreementRows
 pub mod NewOrderRows
 pub mod NamedRows

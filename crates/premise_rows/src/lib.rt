@@ -1,11 +1,13 @@
-// The rows of the table of refusals that go by a file's orders: those of a new order and those of a record that names one; the number of an
-// answer.
+// The rows of the table of refusals that go by a file: those of a new order, those of a record that names one and that of an agreement; the
+// number of an answer.
+mod agreement_rows;
 mod first_in;
 mod named_rows;
 mod new_order_rows;
 mod numbers;
 mod requested;
 
+pub use agreement_rows::deletes_another;
 pub use named_rows::named_answer;
 pub use new_order_rows::new_order_answer;
 pub use numbers::number_of;

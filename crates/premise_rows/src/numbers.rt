@@ -13,6 +13,7 @@ pub fn number_of(answer: Answer) -> u8
         Answer::NotWellKept => 2,
         Answer::MalformedRecord => 3,
         Answer::NoSuchPremise => 4,
+        Answer::OtherAgreement => 18,
         Answer::PremiseHeld => 5,
         Answer::BookFull => 6,
         Answer::OrderOpen => 7,

@@ -81,10 +81,15 @@ returns-19 : tie.Need-returns-19
 unfolding number
 returns-19 c = sym (ap number (c .enum-told19 .given .1))
 
+returns-20 : tie.Need-returns-20
+unfolding number
+returns-20 c = sym (ap number (c .enum-told20 .given .1))
+
 pub number-of-spec : {M : Type 1} → statement M
 number-of-spec =
     tie.close
     (tie.spec
+    (λ c. search needs)
     (λ c. search needs)
     (λ c. search needs)
     (λ c. search needs)
@@ -122,4 +127,5 @@ number-of-spec =
     returns-16
     returns-17
     returns-18
-    returns-19)
+    returns-19
+    returns-20)

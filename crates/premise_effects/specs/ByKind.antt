@@ -22,9 +22,9 @@ tellingBoth code premise first second o = record { order = o; notices = notice c
 abbrev pub LeftBy : Record → Order → Order → Type 0
 LeftBy r o t = (f : File) → t ≡ onOrder f r o .order
 
--- 6 unexecutable: if told and R is not 0, then also to R.
-abbrev pub hearsToo : File → Record → Order → Bool
-hearsToo f r o = is kindUnexecutable r && eqb (o .told) 1 && not (eqb (f .retailer) noRetailer)
+-- 6 unexecutable: if told and R is not 0, then also to R; for a move out, C.
+abbrev pub hearsToo : ℕ → Record → Order → Bool
+hearsToo retailer r o = is kindUnexecutable r && eqb (o .told) 1 && not (eqb retailer noRetailer)
 
 -- 7 meter read. From 3: Complete, SD the day. From 2: In Review.
 abbrev pub asRead : Record → Order → Order

@@ -1,1 +1,2 @@
+pub mod Agreements
 pub mod ByKind

@@ -1,5 +1,8 @@
 // What a record of kinds 4 to 9 does to the order that it names, with its notices.
 ghost use mathlib.Core.Path.{_≡_};
+ghost use mathlib.Core.Bool.{cond};
+ghost use lib.Dec.{eqb};
+ghost use Rattle.records.specs.Records.{moveOut};
 ghost use Rattle.premise.specs.Orders.{withStatus, withPending};
 ghost use Rattle.premise.specs.Steps.{onOrder};
 ghost use Rattle.premise.specs.Promises.{Room, DoneToOrder};
@@ -118,8 +121,19 @@ fn addressee_of(kind: u8, retailer: u32) -> u32
     }
 }
 
-// What a record of kinds 4 to 9 does to the order that it names: the order as the record leaves it, and its notice. An unexecutable order
-// is told to the premise's own retailer too, where that had been told of it.
+// The retailer that has been told of a told order: that of the owner's agreement of a move out, else the premise's own.
+fn told_retailer(kind: u8, retailer: u32, agreement: u32) -> u32
+    ensures { λ told. ⌜ told ≡ cond (eqb kind moveOut) agreement retailer ⌝ }
+{
+    if kind == records::order_kind::MOVE_OUT {
+        agreement
+    } else {
+        retailer
+    }
+}
+
+// What a record of kinds 4 to 9 does to the order that it names: the order as the record leaves it, and its notice. Of an unexecutable order
+// that has been told of, the retailer that heard of it hears too.
 pub fn change_status(
     file: File,
     r: Record,
@@ -140,9 +154,10 @@ pub fn change_status(
     }
     let code = code_of(kind, r.detail);
     let addressee = addressee_of(kind, o.submitter);
+    let told = told_retailer(o.kind, file.retailer, file.agreement);
     let s = tell(code, file.premise, addressee, t, standing, buffer);
-    if !((kind == record_kind::UNEXECUTABLE) & (o.told == 1) & (file.retailer != premise::NOBODY)) {
+    if !((kind == record_kind::UNEXECUTABLE) & (o.told == 1) & (told != premise::NOBODY)) {
         return s;
     }
-    tell(code, file.premise, file.retailer, t, s.sent, buffer)
+    tell(code, file.premise, told, t, s.sent, buffer)
 }

@@ -6,7 +6,7 @@ use premise::Order;
 use records::Record;
 
 // The file after a record: a read of a Scheduled order, on a day not before the one since which the retailer holds, hands the premise to
-// the order's retailer, and to nobody for a move out.
+// the order's retailer, and for a move out to that of the owner's agreement, or nobody.
 pub fn supply(file: File, r: Record, o: Order) -> File
     ensures { λ f. ⌜ f ≡ supplied file r o ⌝ }
 {
@@ -19,7 +19,7 @@ pub fn supply(file: File, r: Record, o: Order) -> File
     let mut f = file;
     f.since = day;
     if o.kind == records::order_kind::MOVE_OUT {
-        f.retailer = premise::NOBODY;
+        f.retailer = file.agreement;
         return f;
     }
     f.retailer = o.submitter;

@@ -7,7 +7,7 @@ use Rattle.records.specs.declared.Record.{Record}
 use Rattle.records.specs.Records.{kindRead, moveOut}
 use Rattle.premise.specs.declared.Order.{Order}
 use Rattle.premise.specs.declared.File.{File}
-use Rattle.premise.specs.Orders.{scheduled, hasStatus, noRetailer, withSupply}
+use Rattle.premise.specs.Orders.{scheduled, hasStatus, withSupply}
 use Rattle.premise.specs.Steps.{is, supplied}
 
 module _ (f : File) (r : Record) (o : Order) where
@@ -20,9 +20,9 @@ module _ (f : File) (r : Record) (o : Order) where
   supply-same e = rw (not-true handsOver e)
 
   module _ (e : not handsOver ≡ false) where
-    pub supply-nobody : o .kind ≡ moveOut → withSupply f noRetailer (r .day) ≡ supplied f r o
+    pub supply-agreement : o .kind ≡ moveOut → withSupply f (f .agreement) (r .day) ≡ supplied f r o
     unfolding supplied
-    supply-nobody k = rw (not-false handsOver e, eq-eqb (o .kind) moveOut k)
+    supply-agreement k = rw (not-false handsOver e, eq-eqb (o .kind) moveOut k)
 
     pub supply-retailer : (o .kind ≡ moveOut → ⊥) → withSupply f (o .submitter) (r .day) ≡ supplied f r o
     unfolding supplied

@@ -1,5 +1,5 @@
 -- `supply` meets its contract: at each return the tests that led there pick the case of `supplied`. Assumes nothing.
-use Rattle.premise_effects.proofs.supplier.Supplied.{supply-same, supply-nobody, supply-retailer}
+use Rattle.premise_effects.proofs.supplier.Supplied.{supply-same, supply-agreement, supply-retailer}
 use Rattle.premise_effects.proofs.supplier.supply.Statement.{statement}
 use Rattle.premise_effects.proofs.supplier.supply.Tie as tie
 
@@ -12,7 +12,7 @@ returns-2 : tie.Need-returns-2
 returns-2 c =
     let e = c .before .before in
     let a = e .before .before .before .before .args in
-    supply-nobody (a .file) (a .r) (a .o) (e .if1 .left) (c .if2 .taken)
+    supply-agreement (a .file) (a .r) (a .o) (e .if1 .left) (c .if2 .taken)
 
 returns-3 : tie.Need-returns-3
 returns-3 c =

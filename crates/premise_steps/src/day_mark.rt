@@ -1,7 +1,6 @@
 // The day mark on a file, and whether it changes one: most files on most marks it leaves. Each order is asked by itself first: a call that
 // takes the file copies it.
 ghost use mathlib.Core.Path.{_≡_};
-ghost use Rattle.premise.specs.Orders.{held};
 ghost use Rattle.premise.specs.WellKept.{Tidy};
 ghost use Rattle.premise_laws.specs.Changes.{markChangesFile};
 ghost use Rattle.premise.specs.OnePremise.{marked};
@@ -12,7 +11,7 @@ use premise::FileAfter;
 // Whether a day mark changes a file: whether the clock or the evaluation changes one of its orders.
 pub fn mark_changes_file(business: bool, today: u16, last: u16, file: File) -> bool
     requires { ⌜ Tidy file ⌝ }
-    ensures { λ r. ⌜ r ≡ markChangesFile business today last (held file) ⌝ }
+    ensures { λ r. ⌜ r ≡ markChangesFile business today last file ⌝ }
 {
     let n = file.count;
     let mut i: usize = 0;

@@ -9,7 +9,7 @@ use borrow.Author.Tests.{not-true, not-false}
 use Rattle.lists.specs.declared.Found.the-variants.{At, Nothing}
 use Rattle.days.specs.Window.{windowWidth, upTo, LastInWindow}
 use Rattle.records.specs.declared.Record.{Record}
-use Rattle.records.specs.Records.{kindRetire, kindNewOrder, kindDayMark}
+use Rattle.records.specs.Records.{kindRetire, kindNewOrder, kindDayMark, kindAgreement}
 use Rattle.premise.specs.declared.File.{File}
 use Rattle.premise.specs.declared.Answer.{Answer}
 use Rattle.premise.specs.declared.Answer.the-variants.{NoSuchOrder}
@@ -47,5 +47,6 @@ module _ (calendar : List ℕ) (today : ℕ) (f : File) (r : Record) (names : na
           names-other r kindRetire refl names,
           names-other r kindNewOrder refl names,
           names-other r kindDayMark refl names,
+          names-other r kindAgreement refl names,
           n,
         )

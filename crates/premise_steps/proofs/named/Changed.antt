@@ -11,7 +11,7 @@ use Rattle.records.specs.Records.{kindRead, moveOut}
 use Rattle.premise.specs.declared.Order.{Order}
 use Rattle.premise.specs.declared.File.{File}
 use Rattle.premise.specs.declared.OrderAfter.{OrderAfter}
-use Rattle.premise.specs.Orders.{scheduled, hasStatus, hasKind, noRetailer, blank, held, withOrders, withSupply}
+use Rattle.premise.specs.Orders.{scheduled, hasStatus, hasKind, blank, held, withOrders, withSupply}
 use Rattle.premise.specs.Steps.{is, onNamed, supplied, changed}
 use Rattle.premise.specs.WellKept.{Tidy}
 use Rattle.premise.specs.Promises.{Room, DoneToOrder, DoneToFile}
@@ -23,8 +23,8 @@ module _ (f : File) (r : Record) (o : Order) where
   unfolding supplied
   supply-by P same other =
       by-test P (is kindRead r && hasStatus scheduled o && leb (f .since) (r .day))
-      (withSupply f (cond (hasKind moveOut o) noRetailer (o .submitter)) (r .day)) f
-      (λ e. other (cond (hasKind moveOut o) noRetailer (o .submitter)) (r .day)) (λ e. same)
+      (withSupply f (cond (hasKind moveOut o) (f .agreement) (o .submitter)) (r .day)) f
+      (λ e. other (cond (hasKind moveOut o) (f .agreement) (o .submitter)) (r .day)) (λ e. same)
 
   supplied-held : held (supplied f r o) ≡ held f
   supplied-held = supply-by (λ (g : File). held g ≡ held f) refl (λ retailer since. refl)

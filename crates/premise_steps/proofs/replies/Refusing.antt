@@ -6,7 +6,7 @@ use mathlib.Core.Bool.{true, false}
 use denote.Enum.Declared.{tagOf}
 use types.Run.{OneOf, miss}
 use Rattle.premise.specs.declared.Answer.{Answer}
-use Rattle.premise.specs.declared.Answer.the-variants.{Accepted, ShortBuffer, NotWellKept, MalformedRecord, NoSuchPremise, PremiseHeld}
+use Rattle.premise.specs.declared.Answer.the-variants.{Accepted, ShortBuffer, NotWellKept, MalformedRecord, NoSuchPremise, OtherAgreement, PremiseHeld}
 use Rattle.premise.specs.declared.Answer.the-variants.{BookFull, OrderOpen, ReferenceHeld, DayOutOfRange, NoSwitchDate, NotFirstIn}
 use Rattle.premise.specs.declared.Answer.the-variants.{RetailerShareFull, StackFull, NoSuchOrder, StatusNotTaken}
 use Rattle.premise.specs.declared.Answer.the-variants.{CounterNotAbove, OrderInWindow, NotNextDay}
@@ -16,7 +16,7 @@ use Rattle.premise_steps.specs.Answering.{isRefusal}
 
 -- the variants' places after the first
 abbrev pub others : List ℕ
-others = 1 ∷ 2 ∷ 3 ∷ 4 ∷ 5 ∷ 6 ∷ 7 ∷ 8 ∷ 9 ∷ 10 ∷ 11 ∷ 12 ∷ 13 ∷ 14 ∷ 15 ∷ 16 ∷ 17 ∷ 18 ∷ []
+others = 1 ∷ 2 ∷ 3 ∷ 4 ∷ 5 ∷ 6 ∷ 7 ∷ 8 ∷ 9 ∷ 10 ∷ 11 ∷ 12 ∷ 13 ∷ 14 ∷ 15 ∷ 16 ∷ 17 ∷ 18 ∷ 19 ∷ []
 
 pub refuses : (answer : Answer) → OneOf others (tagOf the-type answer) → true ≡ isRefusal answer
 unfolding number
@@ -25,6 +25,7 @@ refuses ShortBuffer h = refl
 refuses NotWellKept h = refl
 refuses MalformedRecord h = refl
 refuses NoSuchPremise h = refl
+refuses OtherAgreement h = refl
 refuses PremiseHeld h = refl
 refuses BookFull h = refl
 refuses OrderOpen h = refl

@@ -18,8 +18,8 @@ use Rattle.premise_steps.proofs.day_mark.mark_changes_file.Tie as tie
 
 abbrev Inv-loop : tie.InvT-loop
 Inv-loop business today last file n i₀ i =
-    (i ≤ n) × (anyAt (markChangesOrder business today last (held file)) i (drop i (held file))
-    ≡ markChangesFile business today last (held file))
+    (i ≤ n) × (anyAt (markChangesOrder business today last (file .agreement) (held file)) i (drop i (held file))
+    ≡ markChangesFile business today last file)
 
 abbrev μ-loop : tie.MeasureT-loop
 μ-loop business today last file n i₀ i = n - i
@@ -28,7 +28,7 @@ abbrev μ-loop : tie.MeasureT-loop
 abbrev test : tie.At-loop Inv-loop μ-loop → ℕ → Order → Bool
 test l =
     let a = l .before .args in
-    markChangesOrder (a .business) (a .today) (a .last) (held (a .t4))
+    markChangesOrder (a .business) (a .today) (a .last) (a .t4 .agreement) (held (a .t4))
 
 loop-holds : tie.Need-loop-holds Inv-loop μ-loop
 loop-holds c = (omega arith, refl)
@@ -51,7 +51,7 @@ returns c =
     let l = w .before .before .before in
     let s = l .before in
     at-hit (test l) (s .args .t4) (s .pre) (l .loop .i) (l .loop .inv .1) (search needs)
-    (mark-changes-clock _ _ _ _ _ _ (sym (w .clock-changes-order .ensures) ∙ c .if1 .taken))
+    (mark-changes-clock _ _ _ _ _ _ _ (sym (w .clock-changes-order .ensures) ∙ c .if1 .taken))
 
 may-change-order-requires : tie.Need-may-change-order-requires Inv-loop μ-loop
 may-change-order-requires c κs = search needs
@@ -96,7 +96,7 @@ loop-again-2 c =
       search needs,
       at-next (test l) (s .args .t4) (s .pre) (l .loop .i) (l .loop .inv .1) (search needs)
           (ap₂ _||_ (sym (w .clock-changes-order .ensures) ∙ m .before .if1 .left)
-          (changes-not _ _ _ _ _ (sym (m .may-change-order .ensures) ∙ c .if2 .left))),
+          (changes-not _ _ _ _ _ _ (sym (m .may-change-order .ensures) ∙ c .if2 .left))),
     )
 
 returns-3 : tie.Need-returns-3 Inv-loop μ-loop

@@ -115,13 +115,13 @@ module _ {calendar : List ℕ} {day : ℕ} {b : Book} {standing : ℕ} {buffer :
 
   -- a turn on a file that the mark does not touch
   pub mark-still : {business touches : Bool} (last : ℕ) → business ≡ isBusinessDay calendar day → LastInWindow calendar windowWidth day last
-      → touches ≡ markChangesFile business day last (held (getD (c .files) i past)) → touches ≡ false
+      → touches ≡ markChangesFile business day last (getD (c .files) i past) → touches ≡ false
       → Marking calendar day b standing buffer (i + 1) sent c after
   mark-still last day-kind window tested stays =
       let f : File = getD (c .files) i past in
       let e : marked calendar day f ≡ record { file = f; notices = [] } =
       unchanged-stays calendar day last f mark-tidy window
-      (ap (λ (x : Bool). markChangesFile x day last (held f)) (sym day-kind) ∙ sym tested ∙ stays) in
+      (ap (λ (x : Bool). markChangesFile x day last f) (sym day-kind) ∙ sym tested ∙ stays) in
       subst (λ (fs : List File). Marking calendar day b standing buffer (i + 1) sent (withPlaces c (c .count) fs) after)
       (set-getD (c .files) i past)
       (mark-more (record { file = f; sent = sent }) (done-nothing (marked calendar day f) f sent after e))

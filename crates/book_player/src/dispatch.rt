@@ -20,7 +20,7 @@ pub enum Task {
     Opens(usize, Record),
     // It retires the premise whose file stands at the place.
     Closes(usize),
-    // It leaves its premise's file in the book (kinds 3 to 9 and 11), and that stands at the place.
+    // It leaves its premise's file in the book (kinds 3 to 9, 11 and 12), and that stands at the place.
     OnFile(usize, Record),
     // It marks the next day, which is named.
     NextDay(u16),
@@ -83,11 +83,8 @@ pub fn task_of(bytes: &[u8], today: u16, premises: &[u64], count: usize) -> Task
             let kind = r.kind;
             match kind {
                 record_kind::CREATE => on_new(r, premises, count),
-                record_kind::RETIRE..=record_kind::REPLY | record_kind::DATE_CHANGE => on_held(
-                    r,
-                    premises,
-                    count,
-                ),
+                record_kind::RETIRE..=record_kind::REPLY
+                | record_kind::DATE_CHANGE..=record_kind::AGREEMENT => on_held(r, premises, count),
                 _ => on_mark(r.day, today),
             }
         }

@@ -5,7 +5,7 @@ use native.Mathlib.Omega.{arith}
 use lib.ListN.{take}
 use borrow.Author.Needs.{needs}
 use Rattle.book_player.proofs.Tasks.{task-read}
-use Rattle.book_player.proofs.dispatch.Ways.{kind-new, kind-held, kind-mark}
+use Rattle.book_player.proofs.dispatch.Ways.{needs-one, needs-none, kind-new, kind-held, kind-mark}
 use Rattle.book_player.proofs.dispatch.task_of.Statement.{statement}
 use Rattle.book_player.proofs.dispatch.task_of.Tie as tie
 
@@ -28,25 +28,32 @@ returns-2 c =
 returns-3 : tie.Need-returns-3
 returns-3 c =
     let j = c .before in
-    let m = j .before in
-    let d = m .before .before in
-    let w = d .before .before in
-    let a = w .before .before .before .args in
-    c .on-mark .ensures ∙ sym
-    (task-read (a .bytes .now) (a .today) (a .premises .now) (a .count) _ (sym (w .read-record .ensures) ∙ d .reading .given .1)
-    ∙ kind-mark (a .today) (take (a .count) (a .premises .now)) (a .count) (d .reading .given .0 .0) (m .match2 .rest .0 .1)
-    (⊎-elim (λ t. inl (omega (arith, t .taken))) (λ t. inr (omega (arith, t .1 .left))) (j .if1 .came)) (m .match2 .rest .1))
-
-returns-4 : tie.Need-returns-4
-returns-4 c =
-    let m = c .before in
+    let e = j .before in
+    let m = e .before in
     let d = m .before .before in
     let w = d .before .before in
     let a = w .before .before .before .args in
     c .on-held .ensures ∙ sym
     (task-read (a .bytes .now) (a .today) (a .premises .now) (a .count) _ (sym (w .read-record .ensures) ∙ d .reading .given .1)
     ∙ kind-held (a .today) (take (a .count) (a .premises .now)) (a .count) (d .reading .given .0 .0)
-    (⊎-elim (λ t. inr (t .keys2)) (λ t. inl (omega (arith, t .1 .left), omega (arith, t .2 .taken))) (m .match2 .came)))
+    (needs-one (d .reading .given .0 .0)
+    (⊎-elim (λ t. inl (omega (arith, e .if1 .left), omega (arith, t .taken)))
+    (λ t. inr (omega (arith, t .1 .left), omega (arith, t .2 .taken))) (j .if2 .came))))
+
+returns-4 : tie.Need-returns-4
+returns-4 c =
+    let j = c .before in
+    let m = j .before in
+    let d = m .before .before in
+    let w = d .before .before in
+    let a = w .before .before .before .args in
+    c .on-mark .ensures ∙ sym
+    (task-read (a .bytes .now) (a .today) (a .premises .now) (a .count) _ (sym (w .read-record .ensures) ∙ d .reading .given .1)
+    ∙ kind-mark (a .today) (take (a .count) (a .premises .now)) (a .count) (d .reading .given .0 .0) (m .match2 .rest .1)
+    (needs-none (d .reading .given .0 .0)
+    (⊎-elim (λ t. inl (omega (arith, t .taken)))
+    (λ t. inr
+    (⊎-elim (λ h. inl (omega (arith, h .1 .left), omega (arith, h .2 .taken))) (λ h. inr (omega (arith, h .3 .left))) t)) (j .if1 .came))))
 
 pub task-of-spec : {M : Type 1} → statement M
 task-of-spec =

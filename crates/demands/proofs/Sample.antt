@@ -13,7 +13,7 @@ use Rattle.records.specs.Records.{wellFormed, reading}
 use Rattle.records.specs.Notices.{encode}
 use Rattle.premise.specs.Orders.{places}
 use Rattle.premise.specs.Steps.{requestedDay, makeRoom, ordered, taken, onScheduled, onPermit, onUnexecutable, onRead, supplied, onCancel}
-use Rattle.premise.specs.Steps.{onReply, onOrder, onDateChange, onNamed, changed}
+use Rattle.premise.specs.Steps.{onReply, onOrder, onDateChange, onNamed, changed, agreed}
 use Rattle.premise.specs.Clock.{reviewed, permitAwaited, cancelAwaited, ticked}
 use Rattle.premise.specs.Evaluation.{contends, switchOfDay, givesWay, sameDaySwitch, isDisplaced, dropOnSwitchDay, isOvertaken}
 use Rattle.premise.specs.Evaluation.{permitOvertaken, isDue, lossNotice, evaluation}
@@ -28,18 +28,18 @@ use Rattle.demands.specs.Tapes.{ownOf}
 use Rattle.demands.proofs.Demand3.{demand-3}
 use Rattle.demands.proofs.Tapes.{own-of-made, Marked, keptOf, own-marked}
 use Rattle.demands.proofs.ByDefinition.{Short, by-definition}
-use Rattle.demands.specs.Sample.{lent, made, plays, create7, create5, order7, order5, change5, scheduled7, scheduled5, mark1}
-use Rattle.demands.specs.Sample.{malformed, calendar, tape, sample, shuffled, again, ordered7, dated7, losing7, ordered5}
-use Rattle.demands.specs.Sample.{changed5, dated5, losing5, buffers, Comes}
+use Rattle.demands.specs.Sample.{lent, made, plays, create7, create5, order7, order5, change5, establish7, scheduled7, scheduled5}
+use Rattle.demands.specs.Sample.{mark1, malformed, calendar, tape, sample, shuffled, again, ordered7, agreed7, dated7, losing7}
+use Rattle.demands.specs.Sample.{ordered5, changed5, dated5, losing5, buffers, Comes}
 
 -- ---- the sample
 pub comes : Comes
 unfolding reviewed permitAwaited cancelAwaited ticked contends switchOfDay givesWay sameDaySwitch isDisplaced dropOnSwitchDay isOvertaken
     permitOvertaken isDue lossNotice evaluation refuses standsInWay notFirstIn marked stepped step places number premiseRows orderRows
     requestedDay makeRoom ordered taken onScheduled onPermit onUnexecutable onRead supplied onCancel onReply onOrder onDateChange onNamed
-    changed orderKept isBlank fileKept fileBlank fieldOf encode wellFormed reading kindOfDay isBusinessDay switchDate businessDays inWindow
-    bookOf bookKept fileFor putIn takenOut callRows call lent made plays create7 create5 order7 order5 change5 scheduled7 scheduled5 mark1
-    malformed calendar tape sample shuffled again ordered7 dated7 losing7 ordered5 changed5 dated5 losing5 buffers
+    changed agreed orderKept isBlank fileKept fileBlank fieldOf encode wellFormed reading kindOfDay isBusinessDay switchDate businessDays inWindow
+    bookOf bookKept fileFor putIn takenOut callRows call lent made plays create7 create5 order7 order5 change5 establish7 scheduled7
+    scheduled5 mark1 malformed calendar tape sample shuffled again ordered7 agreed7 dated7 losing7 ordered5 changed5 dated5 losing5 buffers
 comes = record {
   answers7 = refl;
   answers5 = refl;
@@ -53,20 +53,20 @@ comes = record {
 -- ---- every premise has the same records in both lists, in the same order
 -- which records concern a premise, by whether it is 7 or 5
 abbrev marks : Bool → Bool → List Bool
-marks seven five = seven ∷ five ∷ seven ∷ seven ∷ five ∷ false ∷ five ∷ five ∷ five ∷ seven ∷ true ∷ true ∷ []
+marks seven five = seven ∷ five ∷ seven ∷ seven ∷ seven ∷ five ∷ false ∷ five ∷ five ∷ five ∷ seven ∷ true ∷ true ∷ []
 
 abbrev marks₂ : Bool → Bool → List Bool
-marks₂ seven five = five ∷ five ∷ seven ∷ false ∷ false ∷ five ∷ seven ∷ five ∷ five ∷ seven ∷ seven ∷ true ∷ true ∷ []
+marks₂ seven five = five ∷ five ∷ seven ∷ false ∷ false ∷ five ∷ seven ∷ five ∷ five ∷ seven ∷ seven ∷ seven ∷ true ∷ true ∷ []
 
 record BothMarked (premise : ℕ) : Type 0 where
   first : Marked premise tape (marks (eqb 7 premise) (eqb 5 premise))
   second : Marked premise shuffled (marks₂ (eqb 7 premise) (eqb 5 premise))
 
 marked-both : (premise : ℕ) → BothMarked premise
-unfolding reading wellFormed fieldOf create7 create5 order7 order5 change5 scheduled7 scheduled5 mark1 malformed tape shuffled
+unfolding reading wellFormed fieldOf create7 create5 order7 order5 change5 establish7 scheduled7 scheduled5 mark1 malformed tape shuffled
 marked-both premise = record {
-  first = (refl, (refl, (refl, (refl, (refl, (refl, (refl, (refl, (refl, (refl, (refl, (refl, tt))))))))))));
-  second = (refl, (refl, (refl, (refl, (refl, (refl, (refl, (refl, (refl, (refl, (refl, (refl, (refl, tt)))))))))))));
+  first = (refl, (refl, (refl, (refl, (refl, (refl, (refl, (refl, (refl, (refl, (refl, (refl, (refl, tt)))))))))))));
+  second = (refl, (refl, (refl, (refl, (refl, (refl, (refl, (refl, (refl, (refl, (refl, (refl, (refl, (refl, tt))))))))))))));
 }
 
 kept-same : (premise : ℕ) → keptOf (marks (eqb 7 premise) (eqb 5 premise)) tape ≡ keptOf (marks₂ (eqb 7 premise) (eqb 5 premise)) shuffled
@@ -91,7 +91,7 @@ record Shorts : Type 0 where
   second : Short shuffled
 
 shorts : Shorts
-unfolding create7 create5 order7 order5 change5 scheduled7 scheduled5 mark1 malformed tape shuffled
+unfolding create7 create5 order7 order5 change5 establish7 scheduled7 scheduled5 mark1 malformed tape shuffled
 shorts = record { first = record { real = refl; few = omega arith }; second = record { real = refl; few = omega arith } }
 
 pub same : SameBooks 0 sample again

@@ -47,6 +47,10 @@ order5 = 3 ∷ 1 ∷ 2 ∷ 0 ∷ 9 ∷ 0 ∷ 0 ∷ 0 ∷ 5 ∷ 0 ∷ 0 ∷ 0 ∷
 unfoldable pub change5 : List ℕ
 change5 = 11 ∷ 0 ∷ 4 ∷ 0 ∷ 9 ∷ 0 ∷ 0 ∷ 0 ∷ 5 ∷ 0 ∷ 0 ∷ 0 ∷ 0 ∷ 0 ∷ 0 ∷ 0 ∷ 6 ∷ 0 ∷ 0 ∷ 0 ∷ 0 ∷ 0 ∷ 0 ∷ 0 ∷ []
 
+-- an agreement of the owner of 7 with retailer 204
+unfoldable pub establish7 : List ℕ
+establish7 = 12 ∷ 1 ∷ 0 ∷ 0 ∷ 0 ∷ 0 ∷ 0 ∷ 0 ∷ 7 ∷ 0 ∷ 0 ∷ 0 ∷ 0 ∷ 0 ∷ 0 ∷ 0 ∷ 204 ∷ 0 ∷ 0 ∷ 0 ∷ 0 ∷ 0 ∷ 0 ∷ 0 ∷ []
+
 -- both scheduled for day 3, which is out of window on day 0
 unfoldable pub scheduled7 : List ℕ
 scheduled7 = 4 ∷ 0 ∷ 3 ∷ 0 ∷ 1 ∷ 0 ∷ 0 ∷ 0 ∷ 7 ∷ 0 ∷ 0 ∷ 0 ∷ 0 ∷ 0 ∷ 0 ∷ 0 ∷ 0 ∷ 0 ∷ 0 ∷ 0 ∷ 0 ∷ 0 ∷ 0 ∷ 0 ∷ []
@@ -67,7 +71,8 @@ calendar = replicate 10 0
 
 -- the date change stands there twice: the second time its counter is not above the kept one
 unfoldable pub tape : List (List ℕ)
-tape = create7 ∷ create5 ∷ order7 ∷ create7 ∷ order5 ∷ malformed ∷ change5 ∷ change5 ∷ scheduled5 ∷ scheduled7 ∷ mark1 ∷ mark1 ∷ []
+tape =
+    create7 ∷ create5 ∷ order7 ∷ create7 ∷ establish7 ∷ order5 ∷ malformed ∷ change5 ∷ change5 ∷ scheduled5 ∷ scheduled7 ∷ mark1 ∷ mark1 ∷ []
 
 unfoldable pub sample : List Made
 sample = plays calendar (freshBook 0) tape
@@ -75,15 +80,19 @@ sample = plays calendar (freshBook 0) tape
 -- the same in another order between the premises, with the malformed one twice
 unfoldable pub shuffled : List (List ℕ)
 shuffled =
-    create5 ∷ order5 ∷ create7 ∷ malformed ∷ malformed ∷ change5 ∷ order7 ∷ change5 ∷ scheduled5 ∷ create7 ∷ scheduled7 ∷ mark1 ∷ mark1 ∷ []
+    create5 ∷ order5 ∷ create7 ∷ malformed ∷ malformed ∷ change5 ∷ order7 ∷ change5 ∷ scheduled5 ∷ create7 ∷ establish7
+    ∷ scheduled7 ∷ mark1 ∷ mark1 ∷ []
 
 unfoldable pub again : List Made
 again = plays calendar (freshBook 0) shuffled
 
--- ---- the notices: the order and its new date to the TDSP, its day to the new retailer, and on the mark to the retailer that loses the
--- premise
+-- ---- the notices: the order and its new date to the TDSP, the agreement to its retailer, the order's day to the new retailer, and on the
+-- mark to the retailer that loses the premise
 unfoldable pub ordered7 : List ℕ
 ordered7 = 1 ∷ 3 ∷ 0 ∷ 0 ∷ 1 ∷ 0 ∷ 0 ∷ 0 ∷ 7 ∷ 0 ∷ 0 ∷ 0 ∷ 0 ∷ 0 ∷ 0 ∷ 0 ∷ 0 ∷ 0 ∷ 0 ∷ 0 ∷ 0 ∷ 0 ∷ 0 ∷ 0 ∷ []
+
+unfoldable pub agreed7 : List ℕ
+agreed7 = 11 ∷ 0 ∷ 0 ∷ 0 ∷ 0 ∷ 0 ∷ 0 ∷ 0 ∷ 7 ∷ 0 ∷ 0 ∷ 0 ∷ 0 ∷ 0 ∷ 0 ∷ 0 ∷ 204 ∷ 0 ∷ 0 ∷ 0 ∷ 0 ∷ 0 ∷ 0 ∷ 0 ∷ []
 
 unfoldable pub dated7 : List ℕ
 dated7 = 3 ∷ 3 ∷ 3 ∷ 0 ∷ 1 ∷ 0 ∷ 0 ∷ 0 ∷ 7 ∷ 0 ∷ 0 ∷ 0 ∷ 0 ∷ 0 ∷ 0 ∷ 0 ∷ 202 ∷ 0 ∷ 0 ∷ 0 ∷ 0 ∷ 0 ∷ 0 ∷ 0 ∷ []
@@ -109,11 +118,11 @@ buffers ms = map (λ (m : Made). rows (m .reply .sent) (m .after)) ms
 
 -- ---- what comes out: for two premises, for one that has no file, and in every buffer
 pub record Comes : Type 0 where
-  pub answers7 : answers 7 sample ≡ 0 ∷ 0 ∷ 5 ∷ 0 ∷ 0 ∷ 15 ∷ []
+  pub answers7 : answers 7 sample ≡ 0 ∷ 0 ∷ 5 ∷ 0 ∷ 0 ∷ 0 ∷ 15 ∷ []
   pub answers5 : answers 5 sample ≡ 0 ∷ 0 ∷ 0 ∷ 16 ∷ 0 ∷ 0 ∷ 15 ∷ []
   pub answers6 : answers 6 sample ≡ 0 ∷ 15 ∷ []
-  pub notices7 : noticesFor 7 sample ≡ ordered7 ∷ dated7 ∷ losing7 ∷ []
+  pub notices7 : noticesFor 7 sample ≡ ordered7 ∷ agreed7 ∷ dated7 ∷ losing7 ∷ []
   pub notices5 : noticesFor 5 sample ≡ ordered5 ∷ changed5 ∷ dated5 ∷ losing5 ∷ []
   pub notices6 : noticesFor 6 sample ≡ []
-  pub all : buffers sample ≡ [] ∷ [] ∷ (ordered7 ∷ []) ∷ [] ∷ (ordered5 ∷ []) ∷ [] ∷ (changed5 ∷ []) ∷ [] ∷ (dated5 ∷ []) ∷ (dated7 ∷ [])
-      ∷ (losing5 ∷ losing7 ∷ []) ∷ [] ∷ []
+  pub all : buffers sample ≡ [] ∷ [] ∷ (ordered7 ∷ []) ∷ [] ∷ (agreed7 ∷ []) ∷ (ordered5 ∷ []) ∷ [] ∷ (changed5 ∷ []) ∷ [] ∷ (dated5 ∷ [])
+      ∷ (dated7 ∷ []) ∷ (losing5 ∷ losing7 ∷ []) ∷ [] ∷ []

@@ -13,9 +13,9 @@ use Rattle.records.specs.Notices.{decode, encode}
 use Rattle.records.proofs.Notices.{encode-bytes}
 use Rattle.premise.specs.declared.File.{File}
 use Rattle.premise.specs.declared.Answer.{Answer}
-use Rattle.premise.specs.declared.Answer.the-variants.{Accepted, ShortBuffer, NotWellKept, MalformedRecord, NoSuchPremise, PremiseHeld}
-use Rattle.premise.specs.declared.Answer.the-variants.{BookFull, OrderOpen, ReferenceHeld, DayOutOfRange, NoSwitchDate, NotFirstIn}
-use Rattle.premise.specs.declared.Answer.the-variants.{RetailerShareFull, StackFull, NoSuchOrder, StatusNotTaken}
+use Rattle.premise.specs.declared.Answer.the-variants.{Accepted, ShortBuffer, NotWellKept, MalformedRecord, NoSuchPremise, OtherAgreement}
+use Rattle.premise.specs.declared.Answer.the-variants.{PremiseHeld, BookFull, OrderOpen, ReferenceHeld, DayOutOfRange, NoSwitchDate}
+use Rattle.premise.specs.declared.Answer.the-variants.{NotFirstIn, RetailerShareFull, StackFull, NoSuchOrder, StatusNotTaken}
 use Rattle.premise.specs.declared.Answer.the-variants.{CounterNotAbove, OrderInWindow, NotNextDay}
 use Rattle.premise.specs.Refusals.{number}
 use Rattle.premise.specs.WellKept.{FileKept}
@@ -38,6 +38,7 @@ number-most ShortBuffer = omega arith
 number-most NotWellKept = omega arith
 number-most MalformedRecord = omega arith
 number-most NoSuchPremise = omega arith
+number-most OtherAgreement = omega arith
 number-most PremiseHeld = omega arith
 number-most BookFull = omega arith
 number-most OrderOpen = omega arith

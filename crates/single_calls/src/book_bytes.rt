@@ -15,12 +15,12 @@ use record_bytes::wide;
 const ORDER_BYTES: usize = 21;
 
 // a file: its head, and 8 orders
-const HEAD_BYTES: usize = 15;
+const HEAD_BYTES: usize = 19;
 
-const FILE_BYTES: usize = 183;
+const FILE_BYTES: usize = 187;
 
 // a book: its head of 3 bytes, and 64 files
-pub const BOOK_BYTES: usize = 11_715;
+pub const BOOK_BYTES: usize = 11_971;
 
 // An order, from its 21 bytes.
 fn order_from(bytes: &[u8], at: usize) -> Order
@@ -42,21 +42,22 @@ fn order_from(bytes: &[u8], at: usize) -> Order
     }
 }
 
-// A file with no order yet, from the 15 bytes of its head.
+// A file with no order yet, from the 19 bytes of its head.
 fn head_from(bytes: &[u8], at: usize) -> File
-    requires { ⌜ at + 15 ≤ length (now bytes) ⌝ }
+    requires { ⌜ at + 19 ≤ length (now bytes) ⌝ }
 {
     let mut file = premise_file::blank_file();
     file.premise = eight(bytes, at);
     file.retailer = four(bytes, at + 8);
     file.since = two(bytes, at + 12);
     file.count = wide(bytes[at + 14]) as usize;
+    file.agreement = four(bytes, at + 15);
     file
 }
 
-// A file, from its 183 bytes.
+// A file, from its 187 bytes.
 fn file_from(bytes: &[u8], at: usize) -> File
-    requires { ⌜ at + 183 ≤ length (now bytes) ⌝ }
+    requires { ⌜ at + 187 ≤ length (now bytes) ⌝ }
 {
     let mut file = head_from(bytes, at);
     let mut i: usize = 0;
@@ -70,9 +71,9 @@ fn file_from(bytes: &[u8], at: usize) -> File
     file
 }
 
-// A book, from its 11,715 bytes.
+// A book, from its 11,971 bytes.
 pub fn book_from(bytes: &[u8]) -> Book
-    requires { ⌜ 11715 ≤ length (now bytes) ⌝ }
+    requires { ⌜ 11971 ≤ length (now bytes) ⌝ }
 {
     let mut b = book_files::empty(two(bytes, 0));
     b.count = wide(bytes[2]) as usize;

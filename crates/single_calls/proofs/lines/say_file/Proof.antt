@@ -16,6 +16,9 @@ cast-t11 c = search needs
 cast-t13 : tie.Need-cast-t13 Inv-loop μ-loop
 cast-t13 c = search needs
 
+cast-t17 : tie.Need-cast-t17 Inv-loop μ-loop
+cast-t17 c = search needs
+
 slice-aggregate-say : tie.Need-slice-aggregate-say Inv-loop μ-loop
 slice-aggregate-say c = search needs
 
@@ -57,6 +60,7 @@ say-file-spec =
     μ-loop
     cast-t11
     cast-t13
+    cast-t17
     slice-aggregate-say
     say-requires
     loop-holds

@@ -3,6 +3,7 @@
 use crate::evaluation;
 use crate::well_kept::is_well_kept;
 use crate::window::Window;
+use stacking::agreement;
 use stacking::answer::Answer;
 use stacking::book::Book;
 use stacking::clock;
@@ -41,7 +42,7 @@ pub fn record_call_untested(
     play(book, calendar, record, notices)
 }
 
-/// Rows 3 to 17 and 26, and the steps.
+/// Rows 3 to 18 and 26, and the steps.
 fn play(book: &mut Book, calendar: &[u8], record: &[u8], notices: &mut [u8]) -> (Answer, usize) {
     let mut notices = NoticeWriter::new(notices);
     let result = match decode(record) {
@@ -57,7 +58,7 @@ fn play(book: &mut Book, calendar: &[u8], record: &[u8], notices: &mut [u8]) -> 
     }
 }
 
-/// Record kinds 1 to 9 and 11.
+/// Record kinds 1 to 9, 11 and 12.
 fn premise_record(
     book: &mut Book,
     calendar: &[u8],
@@ -81,6 +82,9 @@ fn premise_record(
             premise::order_step(file, calendar, book.today, entry, notices)?;
             evaluation::run(file, &Window::new(calendar, book.today), notices);
             Ok(())
+        }
+        (Entry::Agreement(agreement), Ok(place)) => {
+            agreement::record(&mut book.files[place], agreement, notices)
         }
     }
 }

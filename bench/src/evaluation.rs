@@ -2,7 +2,7 @@
 //! for.
 
 use crate::window::Window;
-use stacking::file::{File, DE_ENERGIZED};
+use stacking::file::{File, DE_ENERGIZED, NO_AGREEMENT};
 use stacking::notice::{Code, NoticeWriter, TDSP};
 use stacking::order::{kind, status, Order};
 
@@ -12,7 +12,7 @@ pub fn run(file: &mut File, window: &Window, notices: &mut NoticeWriter) {
     keep_one_switch_a_day(file, window, &candidates, notices);
     cancel_drops_beside_switches(file, window, &candidates, notices);
     cancel_overtaken_permits(file, window, &candidates, notices);
-    tell_losing_retailer(file, window, &candidates, notices);
+    tell_retailers(file, window, &candidates, notices);
 }
 
 /// The orders that each pass may be about. Most files give no pass anything to
@@ -159,8 +159,9 @@ fn is_overtaken(file: &File, window: &Window, candidates: &Candidates, requested
     })
 }
 
-/// Pass 4: the premise's retailer hears of the order that will replace it.
-fn tell_losing_retailer(
+/// Pass 4: the premise's retailer hears of the order that will replace it, and the
+/// holder of the service agreement of the move out that will leave it the premise.
+fn tell_retailers(
     file: &mut File,
     window: &Window,
     candidates: &Candidates,
@@ -168,11 +169,17 @@ fn tell_losing_retailer(
 ) {
     for place in candidates.untold {
         let order = &mut file.orders[place];
-        if is_untold(order, window) {
+        if !is_untold(order, window) {
+            continue;
+        }
+        if order.kind != kind::MOVE_OUT {
             order.told = 1;
             if file.retailer != DE_ENERGIZED && file.retailer != order.retailer {
                 notices.write(Code::LosingRetailer, file.premise, order, file.retailer);
             }
+        } else if file.agreement != NO_AGREEMENT {
+            order.told = 1;
+            notices.write(Code::AgreementMoveOut, file.premise, order, file.agreement);
         }
     }
 }
@@ -204,10 +211,7 @@ fn is_begun_move_in(order: &Order, window: &Window) -> bool {
 }
 
 fn is_untold(order: &Order, window: &Window) -> bool {
-    order.is_scheduled()
-        & (order.kind != kind::MOVE_OUT)
-        & (order.told == 0)
-        & window.holds(order.scheduled_day)
+    order.is_scheduled() & (order.told == 0) & window.holds(order.scheduled_day)
 }
 
 /// Cancelled, and the TDSP and the submitting retailer hear of it.

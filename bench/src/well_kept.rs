@@ -29,6 +29,7 @@ fn file_is_well_kept(file: &File) -> bool {
     (file.premise != 0)
         & (file.retailer <= LARGEST_RETAILER)
         & is_day(file.since)
+        & (file.agreement <= LARGEST_RETAILER)
         & all(held, order_is_well_kept)
         & all(unused, order_is_empty)
         && references_are_distinct(held)
@@ -36,7 +37,8 @@ fn file_is_well_kept(file: &File) -> bool {
 
 /// Is every field 0, those of all orders too?
 fn file_is_empty(file: &File) -> bool {
-    let own = file.premise | u64::from(file.retailer) | u64::from(file.since);
+    let retailers = file.retailer | file.agreement;
+    let own = file.premise | u64::from(retailers) | u64::from(file.since);
     (own | u64::from(file.order_count) == 0) & all(&file.orders, order_is_empty)
 }
 

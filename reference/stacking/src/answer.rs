@@ -33,13 +33,15 @@ pub enum Answer {
     CounterNotAbove = 16,
     /// The order whose date is to change is Scheduled and in window.
     DateChangeInWindow = 17,
+    /// The agreement to be deleted is not the named retailer's.
+    AgreementOfAnother = 18,
     /// The new order's retailer has 4 or more open orders at the premise.
     FourOpenOrdersOfRetailer = 26,
 }
 
 impl Answer {
     /// Every answer, in the order of its number.
-    pub const ALL: [Answer; 19] = [
+    pub const ALL: [Answer; 20] = [
         Answer::Accepted,
         Answer::BufferTooShort,
         Answer::BookNotWellKept,
@@ -58,6 +60,7 @@ impl Answer {
         Answer::NotTheNextDay,
         Answer::CounterNotAbove,
         Answer::DateChangeInWindow,
+        Answer::AgreementOfAnother,
         Answer::FourOpenOrdersOfRetailer,
     ];
 

@@ -1,5 +1,6 @@
 //! The book: today and up to 64 files, and the record call.
 
+use crate::agreement;
 use crate::answer::Answer;
 use crate::days::LAST_DAY;
 use crate::file::File;
@@ -86,7 +87,7 @@ pub fn record_call(
     play(book, calendar, record, notices)
 }
 
-/// Rows 3 to 17 and 26, and the steps.
+/// Rows 3 to 18 and 26, and the steps.
 fn play(book: &mut Book, calendar: &[u8], record: &[u8], notices: &mut [u8]) -> (Answer, usize) {
     let mut notices = NoticeWriter::new(notices);
     let result = match decode(record) {
@@ -102,7 +103,7 @@ fn play(book: &mut Book, calendar: &[u8], record: &[u8], notices: &mut [u8]) -> 
     }
 }
 
-/// Record kinds 1 to 9 and 11.
+/// Record kinds 1 to 9, 11 and 12.
 fn premise_record(
     book: &mut Book,
     calendar: &[u8],
@@ -124,6 +125,9 @@ fn premise_record(
         (Entry::Order(entry), Ok(place)) => {
             let file = &mut book.files[place];
             premise::order_record(file, calendar, book.today, entry, notices)
+        }
+        (Entry::Agreement(agreement), Ok(place)) => {
+            agreement::record(&mut book.files[place], agreement, notices)
         }
     }
 }

@@ -2,7 +2,7 @@
 //! what the one before left.
 
 use crate::days::in_window;
-use crate::file::{File, DE_ENERGIZED};
+use crate::file::{File, DE_ENERGIZED, NO_AGREEMENT};
 use crate::notice::{Code, NoticeWriter, TDSP};
 use crate::order::{kind, status, Order};
 
@@ -11,7 +11,7 @@ pub fn run(file: &mut File, calendar: &[u8], today: u16, notices: &mut NoticeWri
     keep_one_switch_a_day(file, calendar, today, notices);
     cancel_drops_beside_switches(file, calendar, today, notices);
     cancel_overtaken_permits(file, today, notices);
-    tell_losing_retailer(file, calendar, today, notices);
+    tell_retailers(file, calendar, today, notices);
 }
 
 /// Pass 1: of the switches in window for one day, one is kept.
@@ -102,24 +102,23 @@ fn is_overtaken(file: &File, today: u16, requested_day: u16) -> bool {
     })
 }
 
-/// Pass 4: the premise's retailer hears of the order that will replace it.
-pub fn tell_losing_retailer(
-    file: &mut File,
-    calendar: &[u8],
-    today: u16,
-    notices: &mut NoticeWriter,
-) {
+/// Pass 4: the premise's retailer hears of the order that will replace it, and
+/// the holder of the service agreement of the move out that will leave it the
+/// premise. Without an agreement a move out stays untold.
+pub fn tell_retailers(file: &mut File, calendar: &[u8], today: u16, notices: &mut NoticeWriter) {
     for place in 0..file.held().len() {
         let order = &mut file.orders[place];
-        if order.is_scheduled()
-            && order.kind != kind::MOVE_OUT
+        let is_due = order.is_scheduled()
             && in_window(calendar, today, order.scheduled_day)
-            && order.told == 0
-        {
+            && order.told == 0;
+        if is_due && order.kind != kind::MOVE_OUT {
             order.told = 1;
             if file.retailer != DE_ENERGIZED && file.retailer != order.retailer {
                 notices.write(Code::LosingRetailer, file.premise, order, file.retailer);
             }
+        } else if is_due && file.agreement != NO_AGREEMENT {
+            order.told = 1;
+            notices.write(Code::AgreementMoveOut, file.premise, order, file.agreement);
         }
     }
 }

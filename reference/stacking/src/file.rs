@@ -1,6 +1,6 @@
 //! The file of one premise.
 
-use crate::order::Order;
+use crate::order::{kind, Order};
 
 /// A file holds up to this many orders.
 pub const ORDERS_A_FILE: usize = 8;
@@ -10,6 +10,9 @@ pub const OPEN_ORDERS_A_RETAILER: usize = 4;
 
 /// R of a premise without a retailer.
 pub const DE_ENERGIZED: u32 = 0;
+
+/// C of a premise without a service agreement.
+pub const NO_AGREEMENT: u32 = 0;
 
 /// One premise. Like [`Order`], any number fits in any field.
 #[derive(Clone, Copy, Debug, Default, PartialEq, Eq)]
@@ -22,6 +25,8 @@ pub struct File {
     pub since: u16,
     /// How many of the places of `orders` are used.
     pub order_count: u8,
+    /// C, the retailer of the owner's service agreement; 0 for none.
+    pub agreement: u32,
     /// The orders, oldest first; unused places are zero.
     pub orders: [Order; ORDERS_A_FILE],
 }
@@ -33,6 +38,7 @@ impl File {
         retailer: 0,
         since: 0,
         order_count: 0,
+        agreement: NO_AGREEMENT,
         orders: [Order::EMPTY; ORDERS_A_FILE],
     };
 
@@ -73,6 +79,16 @@ impl File {
             .iter()
             .filter(|order| order.is_open() && order.retailer == retailer)
             .count()
+    }
+
+    /// Who is told of an order: of a move out the holder of the service
+    /// agreement, of any other the premise's retailer; nobody where there is none.
+    pub fn told_of(&self, order: &Order) -> Option<u32> {
+        let (retailer, nobody) = match order.kind {
+            kind::MOVE_OUT => (self.agreement, NO_AGREEMENT),
+            _ => (self.retailer, DE_ENERGIZED),
+        };
+        (retailer != nobody).then_some(retailer)
     }
 
     /// Do open orders take all places, so that none can be dropped?

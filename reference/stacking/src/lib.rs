@@ -8,6 +8,7 @@
 
 #![forbid(unsafe_code)]
 
+pub mod agreement;
 pub mod answer;
 pub mod book;
 pub mod clock;

@@ -32,6 +32,13 @@ pub enum Code {
     CancelRejected = 8,
     /// 814_12.
     DateChange = 9,
+    /// 814_18, to the retailer whose service agreement another one replaces.
+    AgreementReplaced = 10,
+    /// 814_19, to the retailer whose service agreement is established or deleted.
+    Agreement = 11,
+    /// 814_22, to the holder of the service agreement that a move out leaves the
+    /// premise to.
+    AgreementMoveOut = 12,
 }
 
 impl Code {
@@ -66,7 +73,7 @@ impl<'a> NoticeWriter<'a> {
 
     /// Writes the next notice, about `order` as it now is.
     pub fn write(&mut self, code: Code, premise: u64, order: &Order, addressee: u32) {
-        let notice = Fields {
+        self.put(Fields {
             kind: code as u8,
             detail: order.kind,
             day: code.day(order),
@@ -74,7 +81,20 @@ impl<'a> NoticeWriter<'a> {
             premise,
             retailer: addressee,
             tail: 0,
-        };
+        });
+    }
+
+    /// Writes the next notice, about the premise and none of its orders.
+    pub fn write_of_premise(&mut self, code: Code, premise: u64, addressee: u32) {
+        self.put(Fields {
+            kind: code as u8,
+            premise,
+            retailer: addressee,
+            ..Fields::default()
+        });
+    }
+
+    fn put(&mut self, notice: Fields) {
         let (place, rest) = std::mem::take(&mut self.rest).split_at_mut(RECORD_BYTES);
         place.copy_from_slice(&notice.to_bytes());
         self.rest = rest;

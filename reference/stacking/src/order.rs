@@ -45,7 +45,7 @@ pub struct Order {
     pub waited: BusinessDays,
     /// W, the calendar days in Cancel Pending.
     pub cancel_pending_for: CalendarDays,
-    /// 1 once the premise's retailer has been told, or did not have to be.
+    /// 1 once the retailer concerned has been told, or did not have to be.
     pub told: u8,
     /// The counter of the last date change that was taken, 0 before the first.
     pub counter: u32,

@@ -8,7 +8,7 @@ use crate::clock::{self, first_wait};
 use crate::date_change;
 use crate::days::{is_day, switch_date, BusinessDays, CalendarDays, NO_DAY};
 use crate::evaluation;
-use crate::file::{File, DE_ENERGIZED, OPEN_ORDERS_A_RETAILER};
+use crate::file::{File, OPEN_ORDERS_A_RETAILER};
 use crate::first_in::not_first_in;
 use crate::notice::{Code, NoticeWriter, TDSP};
 use crate::order::{kind, status, Order};
@@ -192,16 +192,18 @@ fn permit_required(file: &mut File, place: usize, notices: &mut NoticeWriter) {
 
 /// Kind 6. A retailer that was told of the order hears that it came to nothing.
 fn unexecutable(file: &mut File, place: usize, notices: &mut NoticeWriter) {
-    let order = &mut file.orders[place];
-    order.set_status(status::UNEXECUTABLE);
+    file.orders[place].set_status(status::UNEXECUTABLE);
+    let order = &file.orders[place];
     notices.write(Code::Unexecutable, file.premise, order, order.retailer);
-    if order.told == 1 && file.retailer != DE_ENERGIZED {
-        notices.write(Code::Unexecutable, file.premise, order, file.retailer);
+    let concerned = file.told_of(order).filter(|_| order.told == 1);
+    if let Some(retailer) = concerned {
+        notices.write(Code::Unexecutable, file.premise, order, retailer);
     }
 }
 
 /// Kind 7. A read on a day before the retailer's since comes too late to say
-/// who holds the premise. A read while the permit is pending only puts the
+/// who holds the premise. A move out leaves it to the holder of the service
+/// agreement, or dark. A read while the permit is pending only puts the
 /// order back In Review (002, rule 10).
 fn meter_read(file: &mut File, place: usize, day: u16) {
     let order = &mut file.orders[place];
@@ -214,7 +216,7 @@ fn meter_read(file: &mut File, place: usize, day: u16) {
     if day >= file.since {
         file.since = day;
         file.retailer = match order.kind {
-            kind::MOVE_OUT => DE_ENERGIZED,
+            kind::MOVE_OUT => file.agreement,
             _ => order.retailer,
         };
     }

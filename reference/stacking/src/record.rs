@@ -69,7 +69,7 @@ fn part<const WIDTH: usize>(bytes: &[u8; RECORD_BYTES], place: Range<usize>) -> 
 /// A well-formed record.
 #[derive(Clone, Copy, Debug, PartialEq, Eq)]
 pub enum Record {
-    /// Kinds 1 to 9 and 11: a premise's own record.
+    /// Kinds 1 to 9, 11 and 12: a premise's own record.
     OfPremise { premise: u64, entry: Entry },
     /// Kind 10.
     DayMark { day: u16 },
@@ -84,6 +84,17 @@ pub enum Entry {
     Retire,
     /// Kinds 3 to 9 and 11.
     Order(OrderEntry),
+    /// Kind 12 (02, change 3).
+    Agreement(Agreement),
+}
+
+/// What becomes of the owner's service agreement.
+#[derive(Clone, Copy, Debug, PartialEq, Eq)]
+pub enum Agreement {
+    /// Detail 1.
+    Establish { retailer: u32 },
+    /// Detail 2.
+    Delete { retailer: u32 },
 }
 
 /// What a record says about a premise's orders.
@@ -166,8 +177,8 @@ const ORDER: Ranges = Ranges {
     ..PREMISE
 };
 
-/// The kinds of record 1 to 11, in that order.
-const RANGES: [Ranges; 11] = [
+/// The kinds of record 1 to 12, in that order.
+const RANGES: [Ranges; 12] = [
     // create
     Ranges {
         day: ANY_DAY,
@@ -218,11 +229,21 @@ const RANGES: [Ranges; 11] = [
         retailer: ANY_COUNTER,
         ..ORDER
     },
+    // agreement
+    Ranges {
+        detail: (ESTABLISHED, DELETED),
+        retailer: ANY_RETAILER,
+        ..PREMISE
+    },
 ];
 
 /// The details of a cancel reply.
 const CANCEL_ACCEPTED: u8 = 1;
 const CANCEL_REJECTED: u8 = 2;
+
+/// The details of an agreement.
+const ESTABLISHED: u8 = 1;
+const DELETED: u8 = 2;
 
 impl Ranges {
     fn take(&self, fields: &Fields) -> bool {
@@ -264,10 +285,11 @@ pub fn decode(bytes: &[u8]) -> Option<Record> {
         9 if fields.detail == CANCEL_ACCEPTED => on_order(Event::CancelAccepted),
         9 => on_order(Event::CancelRejected),
         10 => return Some(Record::DayMark { day: fields.day }),
-        _ => on_order(Event::DateChange {
+        11 => on_order(Event::DateChange {
             day: fields.day,
             counter: fields.retailer,
         }),
+        _ => Entry::Agreement(agreement(&fields)),
     };
     Some(Record::OfPremise {
         premise: fields.premise,
@@ -286,6 +308,14 @@ fn new_order(fields: &Fields) -> Option<Entry> {
         reference: fields.reference,
         retailer: fields.retailer,
     }))
+}
+
+fn agreement(fields: &Fields) -> Agreement {
+    let retailer = fields.retailer;
+    match fields.detail {
+        ESTABLISHED => Agreement::Establish { retailer },
+        _ => Agreement::Delete { retailer },
+    }
 }
 
 impl Record {
@@ -342,6 +372,23 @@ impl Entry {
                 reference,
                 ..event.fields()
             },
+            Entry::Agreement(agreement) => agreement.fields(),
+        }
+    }
+}
+
+impl Agreement {
+    /// The record's fields, the premise left open.
+    fn fields(&self) -> Fields {
+        let (detail, retailer) = match *self {
+            Agreement::Establish { retailer } => (ESTABLISHED, retailer),
+            Agreement::Delete { retailer } => (DELETED, retailer),
+        };
+        Fields {
+            kind: 12,
+            detail,
+            retailer,
+            ..Fields::default()
         }
     }
 }

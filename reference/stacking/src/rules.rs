@@ -2,6 +2,7 @@
 //! or none. They are fed the premise's own records and the day marks in tape
 //! order, and nothing from a book.
 
+use crate::agreement;
 use crate::answer::Answer;
 use crate::days::LAST_DAY;
 use crate::file::{File, ORDERS_A_FILE};
@@ -38,7 +39,7 @@ impl OnePremise {
         }
     }
 
-    /// One own record of the premise, or one day mark: rows 3 to 5, 7 to 17
+    /// One own record of the premise, or one day mark: rows 3 to 5, 7 to 18
     /// and 26, then the steps.
     pub fn step(&mut self, calendar: &[u8], record: &[u8]) -> Outcome {
         let mut room = [0; NOTICE_ROOM];
@@ -82,6 +83,9 @@ impl OnePremise {
             }
             (Entry::Order(entry), Some(file)) => {
                 premise::order_record(file, calendar, self.today, entry, notices)
+            }
+            (Entry::Agreement(agreement), Some(file)) => {
+                agreement::record(file, agreement, notices)
             }
         }
     }

@@ -52,8 +52,8 @@ fn write_book(book: &Book, out: &mut dyn Write) -> io::Result<()> {
 fn write_file(file_place: usize, file: &File, out: &mut dyn Write) -> io::Result<()> {
     writeln!(
         out,
-        "f {file_place} {} {} {} {}",
-        file.premise, file.retailer, file.since, file.order_count
+        "f {file_place} {} {} {} {} {}",
+        file.premise, file.retailer, file.since, file.order_count, file.agreement
     )?;
     for (place, order) in file.orders.iter().enumerate() {
         if place < usize::from(file.order_count) || *order != Order::EMPTY {
@@ -96,6 +96,7 @@ fn push_book(bytes: &mut Vec<u8>, book: &Book) {
         bytes.extend(file.retailer.to_le_bytes());
         bytes.extend(file.since.to_le_bytes());
         bytes.push(file.order_count);
+        bytes.extend(file.agreement.to_le_bytes());
         for order in &file.orders {
             push_order(bytes, order);
         }
@@ -201,6 +202,7 @@ impl<'a> Left<'a> {
             retailer: self.four()?,
             since: self.two()?,
             order_count: self.byte()?,
+            agreement: self.four()?,
             ..File::EMPTY
         };
         for order in &mut file.orders {

@@ -2,6 +2,7 @@
 //! one thing to see in each, by the topics of the document. Every clause of the
 //! rules shows in one of them or on a stored tape; `reference/wrong` tries that.
 
+mod agreements;
 mod clock;
 mod date_changes;
 mod days;
@@ -15,7 +16,7 @@ use crate::days::{BusinessDays, CalendarDays, NO_DAY};
 use crate::file::File;
 use crate::notice::NOTICE_BUFFER_BYTES;
 use crate::order::{kind, status, Order};
-use crate::record::{Entry, Event, NewOrder, Record};
+use crate::record::{Agreement, Entry, Event, NewOrder, Record};
 use crate::single_call::Call;
 
 /// A call and what it is called.
@@ -30,6 +31,7 @@ pub fn all() -> Vec<Stored> {
         days::calls(),
         records::calls(),
         date_changes::calls(),
+        agreements::calls(),
         clock::calls(),
         evaluation::calls(),
         rows::calls(),
@@ -47,6 +49,9 @@ const HOLDER: u32 = 101;
 const SINCE: u16 = 3;
 const SUBMITTER: u32 = 202;
 const ANOTHER: u32 = 303;
+
+/// C of the files with a service agreement.
+const LANDLORDS: u32 = 900;
 
 /// All days that the calls are about are business days, unless a call says
 /// otherwise. It is short, since it is stored with every call.
@@ -117,6 +122,14 @@ fn file(orders: &[Order]) -> File {
 fn dark_file(orders: &[Order]) -> File {
     File {
         retailer: 0,
+        ..file(orders)
+    }
+}
+
+/// The premise's file with a service agreement and these orders.
+fn agreed_file(orders: &[Order]) -> File {
+    File {
+        agreement: LANDLORDS,
         ..file(orders)
     }
 }
@@ -206,6 +219,14 @@ fn own(entry: Entry) -> [u8; 24] {
         entry,
     }
     .to_bytes()
+}
+
+fn establish(retailer: u32) -> [u8; 24] {
+    own(Entry::Agreement(Agreement::Establish { retailer }))
+}
+
+fn delete(retailer: u32) -> [u8; 24] {
+    own(Entry::Agreement(Agreement::Delete { retailer }))
 }
 
 fn mark(day: u16) -> [u8; 24] {

@@ -33,6 +33,7 @@ fn file_is_well_kept(file: &File) -> bool {
     file.premise != 0
         && file.retailer <= LARGEST_RETAILER
         && is_day(file.since)
+        && file.agreement <= LARGEST_RETAILER
         && held.iter().all(order_is_well_kept)
         && references_are_distinct(held)
         && unused.iter().all(|place| *place == Order::EMPTY)

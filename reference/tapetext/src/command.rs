@@ -78,6 +78,8 @@ The records, their named fields in any order:
   day N                  the day mark
   days N..N              a day mark for each of them
   date-change            premise N reference N day N counter N
+  establish              premise N retailer N        a service agreement
+  delete                 premise N retailer N        a service agreement
   raw 0a ff ...          24 bytes in hexadecimal; the last record may be shorter
 ";
 

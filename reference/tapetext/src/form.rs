@@ -155,6 +155,20 @@ pub(crate) const FORMS: &[Form] = &[
         0,
         &[PREMISE, REFERENCE, DAY, COUNTER],
     ),
+    form(
+        "agreement, establish",
+        &["establish"],
+        12,
+        1,
+        &[PREMISE, RETAILER],
+    ),
+    form(
+        "agreement, delete",
+        &["delete"],
+        12,
+        2,
+        &[PREMISE, RETAILER],
+    ),
 ];
 
 #[cfg(test)]

@@ -40,6 +40,7 @@ pub(crate) const ROWS: &[Row] = &[
     row(15, "the day is not the one after today", &[DAY]),
     row(16, "its counter is not above the one of the order's last date change", &[COUNTER]),
     row(17, "the order is Scheduled and in window", &[]),
+    row(18, "the agreement is not of the retailer named", &[RETAILER]),
     row(26, "its retailer has 4 or more open orders at the premise", &[RETAILER]),
 ];
 

@@ -7,14 +7,15 @@
 //! written whether it is used or not:
 //!
 //! ```text
-//! book     11,715 bytes
+//! book     11,971 bytes
 //!   T                    2
 //!   number of files      1
-//!   64 files, each     183 bytes
+//!   64 files, each     187 bytes
 //!     P                  8
 //!     R                  4
 //!     S                  2
 //!     number of orders   1
+//!     C                  4
 //!     8 orders, each    21 bytes
 //!       F                4
 //!       K                1
@@ -41,7 +42,7 @@
 //! x place byte                             each byte after the notices that is
 //!                                          no longer 165
 //! b T files
-//! f place P R S orders                     each file place
+//! f place P R S orders C                   each file place
 //! o place place F K Q RD SD status N W told counter
 //!                                          each order place of a file place
 //! ```

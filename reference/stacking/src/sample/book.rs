@@ -30,6 +30,7 @@ pub fn well_kept_book(random: &mut Random) -> Book {
 fn well_kept_file(random: &mut Random, today: u16, premise: u64) -> File {
     let retailer = random.pick(&[0, 101, 202, LARGEST_RETAILER]);
     let mut file = File::new(premise, retailer, some_day(random, today));
+    file.agreement = random.pick(&[0, 0, 101, 404, LARGEST_RETAILER]);
     file.order_count = random.pick(&[0, 1, 2, 3, 5, 7, 8, 8]);
     let first_reference = random.pick(&[1, 5, u32::MAX - ORDERS_A_FILE as u32]);
     // now and then one retailer has more than its share, as no tape leads to
@@ -111,10 +112,11 @@ fn place_to_damage(random: &mut Random, used: u8, places: usize) -> usize {
 }
 
 fn damage_file(random: &mut Random, file: &mut File) {
-    match random.below(4) {
+    match random.below(5) {
         0 => file.premise = random.pick(&[0, 1, 2, u64::MAX]),
         1 => file.retailer = odd_retailer(random),
         2 => file.since = odd_day(random),
+        3 => file.agreement = odd_retailer(random),
         _ => file.order_count = random.pick(&[0, 1, 7, 8, 9, 255]),
     }
 }

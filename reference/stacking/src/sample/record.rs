@@ -2,11 +2,11 @@
 
 use crate::book::Book;
 use crate::days::{LAST_DAY, NO_DAY};
-use crate::file::File;
+use crate::file::{File, NO_AGREEMENT};
 use crate::order::{kind, status, Order, LARGEST_RETAILER};
 use crate::premise::{DAYS_AHEAD, DAYS_BACK};
 use crate::random::Random;
-use crate::record::{Entry, Event, Fields, NewOrder, Record, RECORD_BYTES};
+use crate::record::{Agreement, Entry, Event, Fields, NewOrder, Record, RECORD_BYTES};
 
 /// Makes records for a set of premises and a few retailers. Most suit the book
 /// and are taken; the rest meet one row or another.
@@ -15,7 +15,7 @@ pub struct RecordMaker {
     retailers: Vec<u32>,
     next_reference: u32,
     /// How often each sort of record comes.
-    weights: [(usize, Sort); 7],
+    weights: [(usize, Sort); 8],
 }
 
 #[derive(Clone, Copy)]
@@ -25,6 +25,7 @@ enum Sort {
     NewOrder,
     FittingEvent,
     AnyEvent,
+    Agreement,
     WrongMark,
     Malformed,
 }
@@ -46,6 +47,7 @@ impl RecordMaker {
                 (new_order, Sort::NewOrder),
                 (fitting_event, Sort::FittingEvent),
                 (4, Sort::AnyEvent),
+                (3, Sort::Agreement),
                 (1, Sort::WrongMark),
                 (2, Sort::Malformed),
             ],
@@ -67,13 +69,14 @@ impl RecordMaker {
                 (20, Sort::NewOrder),
                 (45, Sort::FittingEvent),
                 (10, Sort::AnyEvent),
+                (8, Sort::Agreement),
                 (2, Sort::WrongMark),
                 (4, Sort::Malformed),
             ],
         }
     }
 
-    /// A record of kinds 1 to 9 or 11, a day mark for a wrong day, or no record at all.
+    /// A record of kinds 1 to 9, 11 or 12, a day mark for a wrong day, or no record at all.
     pub fn make(&mut self, random: &mut Random, book: &Book) -> [u8; RECORD_BYTES] {
         match random.weighted(&self.weights) {
             Sort::Malformed => self.malformed(random, book),
@@ -92,6 +95,7 @@ impl RecordMaker {
             },
             Sort::Retire => Entry::Retire,
             Sort::NewOrder => Entry::new_order(self.new_order(random, book.today, file)),
+            Sort::Agreement => Entry::Agreement(self.agreement(random, file)),
             Sort::FittingEvent => self.event(random, book.today, file, fitting_event),
             _ => self.event(random, book.today, file, any_event),
         };
@@ -107,7 +111,7 @@ impl RecordMaker {
             match sort {
                 Sort::Create => file.is_none(),
                 Sort::Retire => file.is_some_and(|file| !file.has_open_order()),
-                Sort::NewOrder => file.is_some(),
+                Sort::NewOrder | Sort::Agreement => file.is_some(),
                 _ => file.is_some_and(|file| file.order_count > 0),
             }
         };
@@ -166,6 +170,18 @@ impl RecordMaker {
         Entry::event(reference, event)
     }
 
+    /// An agreement is mostly established; the one there is, mostly, is deleted.
+    fn agreement(&self, random: &mut Random, file: Option<&File>) -> Agreement {
+        let retailer = random.pick(&self.retailers);
+        let held = file.map_or(NO_AGREEMENT, |file| file.agreement);
+        match random.below(6) {
+            0 => Agreement::Delete { retailer },
+            1 if held != NO_AGREEMENT => Agreement::Delete { retailer: held },
+            2 if held != NO_AGREEMENT => Agreement::Establish { retailer: held },
+            _ => Agreement::Establish { retailer },
+        }
+    }
+
     fn retailer_or_none(&self, random: &mut Random) -> u32 {
         match random.below(5) {
             0 => 0,
@@ -176,7 +192,12 @@ impl RecordMaker {
     /// A record with one field out of range or used where it must be zero, or
     /// with a byte changed, or any bytes.
     fn malformed(&mut self, random: &mut Random, book: &Book) -> [u8; RECORD_BYTES] {
-        let sort = random.pick(&[Sort::Create, Sort::NewOrder, Sort::AnyEvent]);
+        let sort = random.pick(&[
+            Sort::Create,
+            Sort::NewOrder,
+            Sort::AnyEvent,
+            Sort::Agreement,
+        ]);
         let record = match random.below(6) {
             0 => wrong_mark(random, book.today),
             _ => self.own_record(random, book, sort),
@@ -354,7 +375,7 @@ fn wrong_mark(random: &mut Random, today: u16) -> Record {
 /// One field set to what hardly any kind of record takes there.
 fn spoiled(random: &mut Random, mut fields: Fields) -> Fields {
     match random.below(7) {
-        0 => fields.kind = random.pick(&[0, 12, 255]),
+        0 => fields.kind = random.pick(&[0, 13, 255]),
         1 => fields.detail = random.pick(&[0, 3, 6, 255]),
         2 => fields.day = random.pick(&[NO_DAY, u16::MAX, 1]),
         3 => fields.reference = random.pick(&[0, 1]),

@@ -22,8 +22,8 @@ pub fn calls() -> Vec<Stored> {
 fn first_rows() -> Vec<Stored> {
     let damaged = || book(4_096, &[]);
     let marked = mark(11).to_vec();
-    let mut kind_12 = marked.clone();
-    kind_12[0] = 12;
+    let mut kind_13 = marked.clone();
+    kind_13[0] = 13;
     let open = |order| [file(&[cancelled(9, MOVE_IN), order])];
     let full: Vec<File> = (1..=64).map(|place| File::new(place * 10, 0, 0)).collect();
     vec![
@@ -40,7 +40,7 @@ fn first_rows() -> Vec<Stored> {
         stored("row 3: 23 bytes", &[], mark(11)).with_record(marked[..23].to_vec()),
         stored("row 3: 25 bytes", &[], mark(11)).with_record([marked, vec![0]].concat()),
         stored("row 3: no byte", &[], mark(11)).with_record(vec![]),
-        stored("row 3: kind 12", &[], mark(11)).with_record(kind_12),
+        stored("row 3: kind 13", &[], mark(11)).with_record(kind_13),
         stored("row 4: retire", &[], retire()),
         stored("row 4: a new order", &[], new_order(1, MOVE_IN, 11)),
         stored("row 4: a cancel", &[], cancel(1)),

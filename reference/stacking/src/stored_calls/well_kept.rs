@@ -82,6 +82,7 @@ fn kept() -> Vec<Stored> {
     most.premise = u64::MAX;
     most.retailer = 999_999_999;
     most.since = 4_095;
+    most.agreement = 999_999_999;
     let last = book(4_094, &[File::new(1, 0, 0), most]);
     let first = book(
         0,
@@ -113,6 +114,10 @@ fn kept() -> Vec<Stored> {
         }),
         with_order("well kept: Unexecutable without a day", 7, |order| {
             order.scheduled_day = NO_DAY
+        }),
+        marked("well kept: C 1, with and without R", |book| {
+            book.files[0].agreement = 1;
+            book.files[1].agreement = 1;
         }),
         marked("well kept: one reference in two files", |book| {
             book.files[2].order_count = 1;
@@ -148,6 +153,12 @@ fn heads() -> Vec<Stored> {
             book.files[1].retailer = 1_000_000_000
         }),
         marked("row 2: S 4,096", |book| book.files[1].since = 4_096),
+        marked("row 2: C 1,000,000,000", |book| {
+            book.files[1].agreement = 1_000_000_000
+        }),
+        marked("row 2: C 4,294,967,295", |book| {
+            book.files[0].agreement = u32::MAX
+        }),
         marked("row 2: a place too few is counted", |book| {
             book.files[1].order_count = 6
         }),
@@ -282,6 +293,7 @@ fn unused() -> Vec<Stored> {
         unused_file("row 2: P in an unused file", |file| file.premise = u64::MAX),
         unused_file("row 2: R in an unused file", |file| file.retailer = 1),
         unused_file("row 2: S in an unused file", |file| file.since = 1),
+        unused_file("row 2: C in an unused file", |file| file.agreement = 1),
         unused_file("row 2: a count in an unused file", |file| {
             file.order_count = 1
         }),

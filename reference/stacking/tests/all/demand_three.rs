@@ -137,7 +137,7 @@ fn random_tapes_and_their_shuffles() {
     }
     assert_eq!(
         Vec::from_iter(answers),
-        [0, 3, 4, 5, 7, 8, 9, 10, 11, 12, 13, 14, 15, 16, 17, 26]
+        [0, 3, 4, 5, 7, 8, 9, 10, 11, 12, 13, 14, 15, 16, 17, 18, 26]
     );
 }
 

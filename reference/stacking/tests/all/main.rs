@@ -1,5 +1,6 @@
 //! The tests of the second program, in one program: a topic a module.
 
+mod agreement;
 mod date_change;
 mod demand_three;
 mod programs;

@@ -141,5 +141,5 @@ fn the_64th_file_is_taken_and_a_retired_one_makes_room() {
 #[test]
 fn the_answers_have_the_documents_numbers() {
     let numbers: Vec<u8> = Answer::ALL.iter().map(|answer| answer.number()).collect();
-    assert_eq!(numbers, Vec::from_iter((0..=17).chain([26])));
+    assert_eq!(numbers, Vec::from_iter((0..=18).chain([26])));
 }

@@ -13,7 +13,7 @@ struct Use {
 }
 
 /// In the order of the paper's list, with its fields in brackets.
-const USED: [Use; 11] = [
+const USED: [Use; 12] = [
     uses(1, &[0], "day premise retailer"),
     uses(2, &[0], "premise"),
     uses(3, &[1, 2, 3, 4, 5], "day reference premise retailer"),
@@ -25,6 +25,7 @@ const USED: [Use; 11] = [
     uses(9, &[1, 2], "reference premise"),
     uses(10, &[0], "day"),
     uses(11, &[0], "day reference premise counter"),
+    uses(12, &[1, 2], "premise retailer"),
 ];
 
 const fn uses(kind: u8, details: &'static [u8], fields: &'static str) -> Use {
@@ -77,8 +78,8 @@ fn the_samples_are_well_formed() {
 }
 
 #[test]
-fn kinds_other_than_1_to_11() {
-    for kind in (0..=0).chain(12..=255) {
+fn kinds_other_than_1_to_12() {
+    for kind in (0..=0).chain(13..=255) {
         for fields in samples() {
             assert!(!well_formed(Fields { kind, ..fields }));
         }

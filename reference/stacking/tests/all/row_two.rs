@@ -136,16 +136,22 @@ fn premises_rise() {
 }
 
 #[test]
-fn a_file_has_its_retailer_and_since_in_range() {
+fn a_file_has_its_retailers_and_since_in_range() {
     for place in 0..3 {
         for retailer in [0, 1, 999_999_999] {
             assert!(!answered_2(&with(
                 |book| book.files[place].retailer = retailer
             )));
+            assert!(!answered_2(&with(
+                |book| book.files[place].agreement = retailer
+            )));
         }
         for retailer in [1_000_000_000, u32::MAX] {
             assert!(answered_2(&with(
                 |book| book.files[place].retailer = retailer
+            )));
+            assert!(answered_2(&with(
+                |book| book.files[place].agreement = retailer
             )));
         }
         for since in [0, 4_095] {
@@ -328,6 +334,7 @@ fn unused_places_of_the_book_are_zero() {
         assert!(answered_2(&with(|book| book.files[place].premise = 40)));
         assert!(answered_2(&with(|book| book.files[place].retailer = 1)));
         assert!(answered_2(&with(|book| book.files[place].since = 1)));
+        assert!(answered_2(&with(|book| book.files[place].agreement = 1)));
         assert!(answered_2(&with(|book| book.files[place].order_count = 1)));
         for change in ORDER_FIELDS {
             for order_place in 0..ORDERS_A_FILE {

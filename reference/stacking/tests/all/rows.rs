@@ -37,6 +37,11 @@ impl Case {
         self
     }
 
+    fn with_agreement(mut self, retailer: u32) -> Case {
+        self.book.files[0].agreement = retailer;
+        self
+    }
+
     fn for_premise_not_held(mut self) -> Case {
         self.record[8] = PREMISE as u8 + 100;
         self
@@ -152,6 +157,12 @@ fn cases() -> Vec<Case> {
         Case::new(14, &closed, date_change(1, 310, 1)),
         Case::new(16, &dated_scheduled(310), date_change(1, 320, 5)),
         Case::new(17, &dated_scheduled(302), date_change(1, 320, 6)),
+        Case::new(0, &review, establish(900)),
+        Case::new(0, &review, delete(900)).with_agreement(900),
+        Case::new(4, &[], establish(900)).for_premise_not_held(),
+        Case::new(4, &[], delete(900)).for_premise_not_held(),
+        Case::new(18, &review, delete(900)),
+        Case::new(18, &[], delete(900)).with_agreement(901),
     ]
 }
 
@@ -161,7 +172,7 @@ fn each_row_on_its_own() {
     for case in &cases {
         assert_eq!(case.call(), case.answer, "{:?}", case.record);
     }
-    for number in (3..=17).chain([26]) {
+    for number in (3..=18).chain([26]) {
         assert!(cases.iter().any(|case| case.answer == number));
     }
 }
@@ -186,7 +197,7 @@ fn row_2_comes_before_all_but_row_1() {
 }
 
 #[test]
-fn row_3_comes_before_rows_4_to_17_and_26() {
+fn row_3_comes_before_rows_4_to_18_and_26() {
     for mut case in cases() {
         case.record[23] = 1;
         assert_eq!(case.call(), 3);
@@ -199,12 +210,13 @@ fn row_3_comes_before_rows_4_to_17_and_26() {
 }
 
 #[test]
-fn row_4_comes_before_rows_9_10_and_13() {
+fn row_4_comes_before_rows_9_10_13_and_18() {
     for case in [
         Case::new(4, &[], new_order(1, 391, 1)),
         Case::new(4, &[], new_order(3, 0, 1)).on_calendar(vec![]),
         Case::new(4, &[], scheduled(9, 310)),
         Case::new(4, &[], date_change(9, 310, 1)),
+        Case::new(4, &[], delete(900)),
     ] {
         assert_eq!(case.for_premise_not_held().call(), 4);
     }

@@ -506,9 +506,10 @@ fn every_record_on_a_file_ends_with_its_evaluation() {
 }
 
 #[test]
-fn a_retire_runs_no_evaluation_and_a_refusal_neither() {
+fn a_retire_and_an_agreement_run_no_evaluation_and_a_refusal_neither() {
     let mut desk = Desk::with_file(10, business_days(), file_with(&[order(2, 4, 10, 11, 3)]));
     assert_eq!(desk.send(stacking::record::Entry::Retire), 7);
     assert_eq!(desk.send(cancel_by(HOLDER, 2)), 13);
+    desk.take(&[establish(ANOTHER), delete(ANOTHER)]);
     assert_eq!(desk.order(2).told, 0);
 }

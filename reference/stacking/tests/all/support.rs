@@ -5,7 +5,7 @@ use stacking::days::CALENDAR_BYTES;
 use stacking::file::File;
 use stacking::notice::NOTICE_BUFFER_BYTES;
 use stacking::order::Order;
-use stacking::record::{Entry, Event, Fields, NewOrder, Record, RECORD_BYTES};
+use stacking::record::{Agreement, Entry, Event, Fields, NewOrder, Record, RECORD_BYTES};
 use stacking::rules::OnePremise;
 
 /// The byte that buffers are filled with, to see what is written.
@@ -98,6 +98,14 @@ pub fn reject(reference: u32) -> Entry {
 
 pub fn date_change(reference: u32, day: u16, counter: u32) -> Entry {
     Entry::event(reference, Event::DateChange { day, counter })
+}
+
+pub fn establish(retailer: u32) -> Entry {
+    Entry::Agreement(Agreement::Establish { retailer })
+}
+
+pub fn delete(retailer: u32) -> Entry {
+    Entry::Agreement(Agreement::Delete { retailer })
 }
 
 /// A notice as code, kind, day, reference, addressee.

@@ -38,7 +38,7 @@ fn its_bytes_give_its_text() {
 /// One record of each form with fields that fill their width, by line and by
 /// bytes: kind and detail, day, reference, premise, retailer or counter.
 #[rustfmt::skip]
-const FORMS: [(&str, [u64; 6]); 17] = [
+const FORMS: [(&str, [u64; 6]); 19] = [
     ("create premise 18446744073709551615 day 65535 retailer 4294967295", [1, 0, 65_535, 0, u64::MAX, 4_294_967_295]),
     ("retire premise 258", [2, 0, 0, 0, 258, 0]),
     ("move-in premise 1 reference 2 day 3 retailer 4", [3, 1, 3, 2, 1, 4]),
@@ -56,6 +56,8 @@ const FORMS: [(&str, [u64; 6]); 17] = [
     ("reply reject premise 1 reference 2", [9, 2, 0, 2, 1, 0]),
     ("day 513", [10, 0, 513, 0, 0, 0]),
     ("date-change premise 1 reference 2 day 3 counter 4294967295", [11, 0, 3, 2, 1, 4_294_967_295]),
+    ("establish premise 1 retailer 4", [12, 1, 0, 0, 1, 4]),
+    ("delete premise 1 retailer 4294967295", [12, 2, 0, 0, 1, 4_294_967_295]),
 ];
 
 fn record([kind, detail, day, reference, premise, retailer]: [u64; 6]) -> Vec<u8> {

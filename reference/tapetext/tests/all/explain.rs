@@ -169,6 +169,16 @@ fn each_row_has_its_words() {
             "date change, premise 8, reference 1: the order is Scheduled and in window",
         ),
         (
+            "delete premise 8 retailer 900",
+            18,
+            "agreement, delete, premise 8, retailer 900: the agreement is not of the retailer named",
+        ),
+        (
+            "establish premise 8 retailer 900",
+            4,
+            "agreement, establish, premise 8: there is no such premise",
+        ),
+        (
             "date-change premise 8 reference 1 day 40 counter 0",
             3,
             "date change, premise 8, reference 1, day 40, counter 0: its length is not 24, its \

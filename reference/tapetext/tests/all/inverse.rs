@@ -4,10 +4,11 @@
 use tapetext::{decode, encode, Tape, CALENDAR_DAYS, RECORD_BYTES};
 
 #[rustfmt::skip]
-const WORDS: [&str; 26] = [
+const WORDS: [&str; 28] = [
     "calendar", "absent", "9", "days,", "holiday", "day-kind", "2..3", "3..2", "create", "retire",
     "move-in", "reply", "accept", "day", "days", "raw", "0a", "premise", "reference", "retailer",
     "#", "7", "99999999999999999999", "\u{e9}", "date-change", "counter",
+    "establish", "delete",
 ];
 
 /// SplitMix64: a seed gives the same tapes on every machine.
@@ -34,7 +35,7 @@ impl Random {
     /// time in four a byte that should not be there.
     fn near_record(&mut self) -> Vec<u8> {
         let mut record = vec![0; RECORD_BYTES];
-        record[0] = self.below(13) as u8;
+        record[0] = self.below(14) as u8;
         record[1] = self.below(7) as u8;
         for field in [2..4, 4..8, 8..16, 16..20] {
             if self.below(3) > 0 {

@@ -20,7 +20,7 @@ fn an_unknown_record() {
         "switch premise 7",
         "\"switch premise 7\" is no record; expected one of: create, retire, move-in, move-out, \
          standard-switch, self-selected-switch, drop, scheduled, permit, unexecutable, read, \
-         cancel, reply, day, date-change, days, raw",
+         cancel, reply, day, date-change, establish, delete, days, raw",
     );
     assert_said(
         "reply maybe premise 7 reference 1",

@@ -9,7 +9,7 @@ use stacking::book::{record_call, Book};
 use stacking::clock::{self, LONGEST_WAIT, REVIEW_WAIT};
 use stacking::days::{is_business_day, switch_date};
 use stacking::evaluation;
-use stacking::file::File;
+use stacking::file::{File, NO_AGREEMENT};
 use stacking::first_in;
 use stacking::notice::{NoticeWriter, NOTICE_BUFFER_BYTES, TDSP};
 use stacking::order::{kind, status, Order};
@@ -38,10 +38,10 @@ const PASSES: [&str; 4] = [
     "1 switches of one day",
     "2 drops beside switches",
     "3 overtaken permits",
-    "4 telling the retailer",
+    "4 telling the retailers",
 ];
 
-const KINDS: [&str; 12] = [
+const KINDS: [&str; 13] = [
     "malformed or short",
     "1 create",
     "2 retire",
@@ -54,6 +54,7 @@ const KINDS: [&str; 12] = [
     "9 cancel reply",
     "10 day mark",
     "11 date change",
+    "12 agreement",
 ];
 
 /// A pass of the evaluation.
@@ -63,7 +64,7 @@ const PASS_STEPS: [Pass; 4] = [
     evaluation::keep_one_switch_a_day,
     evaluation::cancel_drops_beside_switches,
     |file, _, today, notices| evaluation::cancel_overtaken_permits(file, today, notices),
-    evaluation::tell_losing_retailer,
+    evaluation::tell_retailers,
 ];
 
 /// How often each thing was met.
@@ -76,9 +77,15 @@ pub struct Coverage {
     shares: [u64; 2],
     /// By kind of record: refused, accepted.
     kinds: [[u64; 2]; KINDS.len()],
-    codes: [u64; 9],
+    codes: [u64; 12],
     /// Notices 9 to the premise's retailer, who was told.
     new_dates_told: u64,
+    /// Notices 7 to the holder of the service agreement, who was told.
+    agreements_told: u64,
+    /// Move outs that left a premise to the holder of its service agreement.
+    agreements_read: u64,
+    /// Records but a scheduling and a mark that told of a move out.
+    told_later: u64,
     branches: [u64; BRANCHES.len()],
     /// By pass: did not act, acted.
     passes: [[u64; 2]; 4],
@@ -118,17 +125,20 @@ impl Coverage {
     }
 
     fn count_call(&mut self, record: &[u8], answer: Answer, notices: &[u8]) {
-        let kind = match decode(record) {
+        let record_kind = match decode(record) {
             None => 0,
             Some(_) => usize::from(record[0]),
         };
         let place = Answer::ALL.iter().position(|&known| known == answer);
         self.answers[place.expect("every answer is among them")] += 1;
-        self.kinds[kind][usize::from(answer == Answer::Accepted)] += 1;
-        for notice in notices.chunks_exact(RECORD_BYTES) {
+        self.kinds[record_kind][usize::from(answer == Answer::Accepted)] += 1;
+        for (place, notice) in notices.chunks_exact(RECORD_BYTES).enumerate() {
             let notice = Fields::from_bytes(notice.try_into().expect("chunks are 24 bytes"));
+            let of_move_out = notice.detail == kind::MOVE_OUT;
             self.codes[usize::from(notice.kind) - 1] += 1;
             self.new_dates_told += u64::from(notice.kind == 9 && notice.retailer != TDSP);
+            self.agreements_told += u64::from(place == 1 && notice.kind == 7 && of_move_out);
+            self.told_later += u64::from(notice.kind == 12 && !matches!(record_kind, 4 | 10));
         }
     }
 
@@ -220,7 +230,12 @@ impl Coverage {
         assert_eq!(taken, Ok(()), "the record was accepted");
         let is_new = matches!(entry, OrderEntry::New(_));
         self.dropped += u64::from(is_new && before.order_count == file.order_count);
-        self.late_reads += u64::from(is_late_read(before, entry));
+        if let Some((order, Event::MeterRead { day })) = named_order(before, entry) {
+            let in_time = day >= before.since;
+            let to_agreement = order.kind == kind::MOVE_OUT && before.agreement != NO_AGREEMENT;
+            self.late_reads += u64::from(order.is_scheduled() && !in_time);
+            self.agreements_read += u64::from(order.is_scheduled() && in_time && to_agreement);
+        }
         file
     }
 
@@ -263,10 +278,23 @@ impl Coverage {
         for (place, &count) in self.codes.iter().enumerate() {
             lines.push((format!("notice {}", place + 1), count));
         }
-        lines.push((
-            "notice 9 to a retailer that was told".into(),
-            self.new_dates_told,
-        ));
+        for (name, count) in [
+            ("notice 9 to a retailer that was told", self.new_dates_told),
+            (
+                "notice 7 to the holder of an agreement",
+                self.agreements_told,
+            ),
+            (
+                "notice 12 after neither a scheduling nor a mark",
+                self.told_later,
+            ),
+            (
+                "a move out's read for the holder of an agreement",
+                self.agreements_read,
+            ),
+        ] {
+            lines.push((name.into(), count));
+        }
         for (name, &count) in BRANCHES.iter().zip(&self.branches) {
             lines.push((format!("clock: {name}"), count));
         }
@@ -330,17 +358,14 @@ fn file_of(book: &Book, premise: u64) -> &File {
     file.expect("the record came past row 4")
 }
 
-/// A read of a Scheduled order, on a day before the retailer's since?
-fn is_late_read(file: &File, entry: OrderEntry) -> bool {
-    let OrderEntry::Event { reference, event } = entry else {
-        return false;
-    };
-    let order = file
-        .held()
-        .iter()
-        .find(|order| order.reference == reference);
-    matches!(event, Event::MeterRead { day } if day < file.since)
-        && order.is_some_and(Order::is_scheduled)
+/// The order that a record is about, and what happens to it.
+fn named_order(file: &File, entry: OrderEntry) -> Option<(&Order, Event)> {
+    match entry {
+        OrderEntry::New(_) => None,
+        OrderEntry::Event { reference, event } => {
+            Some((&file.orders[file.place_of(reference)?], event))
+        }
+    }
 }
 
 fn requested_day(new: &NewOrder, calendar: &[u8], today: u16) -> u16 {

@@ -5,6 +5,7 @@
 
 #![allow(warnings)]
 
+mod agreement;
 mod answer;
 mod book;
 mod clock;

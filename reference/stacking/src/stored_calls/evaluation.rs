@@ -1,5 +1,5 @@
 //! The evaluation. Its passes show at a mark for day 11 on a book of day 10, and
-//! it follows every accepted record of kinds 3 to 9.
+//! it follows every accepted record of kinds 3 to 9 (`date_changes` has kind 11).
 
 use super::*;
 use kind::*;

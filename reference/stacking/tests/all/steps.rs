@@ -474,8 +474,8 @@ fn pass_4_tells_the_holder_once() {
     }
 }
 
-/// No tape shows it, but every accepted record of kinds 3 to 9 and 11 ends with the
-/// evaluation, also on a book that was handed in with something left to do.
+/// Every accepted record of kinds 3 to 9 and 11 ends with the evaluation, also on
+/// a book that was handed in with something left to do.
 #[test]
 fn every_record_on_a_file_ends_with_its_evaluation() {
     for (held_status, entry) in [

@@ -69,6 +69,7 @@ tests f =
     aRetailerOrNone (f .retailer)
     ∷ isDay (f .since)
     ∷ aRetailerOrNone (f .agreement)
+    ∷ leb (f .entered) 1
     ∷ leb (f .count) mostOrders
     ∷ eqb (length (f .orders)) mostOrders
     ∷ allOf orderKept (held f)
@@ -80,16 +81,17 @@ file-facts : (f : File) → fileKept f ≡ true → FileKept f
 unfolding fileKept
 file-facts f h =
     let k = pass-each (aPremise (f .premise)) (tests f) h in
-    let few = leb-true (f .count) mostOrders (k .1 .1 .1 .1 .0) in
-    let long = eqb-true (length (f .orders)) mostOrders (k .1 .1 .1 .1 .1 .0) in
+    let few = leb-true (f .count) mostOrders (k .1 .1 .1 .1 .1 .0) in
+    let long = eqb-true (length (f .orders)) mostOrders (k .1 .1 .1 .1 .1 .1 .0) in
     record {
       premise = k .0;
       retailer = k .1 .0;
       since = k .1 .1 .0;
       agreement = k .1 .1 .1 .0;
-      orders = k .1 .1 .1 .1 .1 .1 .0;
-      references = k .1 .1 .1 .1 .1 .1 .1 .0;
-      tidy = record { few = few; whole = whole-of f few long (k .1 .1 .1 .1 .1 .1 .1 .1 .0) };
+      entered = k .1 .1 .1 .1 .0;
+      orders = k .1 .1 .1 .1 .1 .1 .1 .0;
+      references = k .1 .1 .1 .1 .1 .1 .1 .1 .0;
+      tidy = record { few = few; whole = whole-of f few long (k .1 .1 .1 .1 .1 .1 .1 .1 .1 .0) };
     }
 
 file-test : (f : File) → FileKept f → fileKept f ≡ true
@@ -99,7 +101,7 @@ file-test f k =
     let long = eq-eqb (length (f .orders)) mostOrders (length-orders f (k .tidy)) in
     let unused = ap (allOf isBlank) (unused-of f (k .tidy)) ∙ all-same isBlank blank blank-passes (mostOrders - length (held f)) in
     each-pass (aPremise (f .premise)) (tests f)
-    (k .premise, (k .retailer, (k .since, (k .agreement, (few, (long, (k .orders, (k .references, (unused, tt)))))))))
+    (k .premise, (k .retailer, (k .since, (k .agreement, (k .entered, (few, (long, (k .orders, (k .references, (unused, tt))))))))))
 
 pub kept-means : KeptMeans
 kept-means f = (file-facts f, file-test f)

@@ -191,18 +191,20 @@ withOrders f os =
       retailer = f .retailer;
       since = f .since;
       agreement = f .agreement;
+      entered = f .entered;
       count = length os;
       orders = places os;
     }
 
--- a file with another retailer, R, since a day, S
-abbrev pub withSupply : File → ℕ → ℕ → File
-withSupply f retailer since =
+-- A file with another retailer, R, since a day, S. Document 02, change 4: "the file keeps a mark" for whether a move in set it.
+abbrev pub withSupply : File → ℕ → ℕ → ℕ → File
+withSupply f retailer since entered =
     record {
       premise = f .premise;
       retailer = retailer;
       since = since;
       agreement = f .agreement;
+      entered = entered;
       count = f .count;
       orders = f .orders;
     }
@@ -215,10 +217,11 @@ withAgreement f agreement =
       retailer = f .retailer;
       since = f .since;
       agreement = agreement;
+      entered = f .entered;
       count = f .count;
       orders = f .orders;
     }
 
 -- a file of which every field is zero: an unused place of the book
 abbrev pub blankFile : File
-blankFile = record { premise = 0; retailer = 0; since = 0; agreement = 0; count = 0; orders = replicate mostOrders blank }
+blankFile = record { premise = 0; retailer = 0; since = 0; agreement = 0; entered = 0; count = 0; orders = replicate mostOrders blank }

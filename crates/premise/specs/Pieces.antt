@@ -7,6 +7,7 @@ pub mod Document
 pub mod Evaluation
 pub mod Forms
 pub mod Kept
+pub mod OneDay
 pub mod Records
 pub mod Refusals
 use Rattle.premise.specs.Pieces.Forms.{Piece}
@@ -16,6 +17,7 @@ use Rattle.premise.specs.Pieces.Clock.{reviewsEnd, permitsEnd, cancelsEn
 use Rattle.premise.specs.Pieces.Evaluation.{sameDay, drops, overtaken, losing}
 use Rattle.premise.specs.Pieces.DateChange.{redates, redatedOnTape, redatesRefused}
 use Rattle.premise.specs.Pieces.Agreements.{agreements, agreementsTold, agreementsOnTape}
+use Rattle.premise.specs.Pieces.OneDay.{oneDay}
 use Rattle.premise.specs.Pieces.Refusals.{firstIn, statuses, premises, dayLimits, stacks, shares}
 use Rattle.premise.specs.Pieces.Kept.{keptOrders, keptFiles, numbers}
 
@@ -27,5 +29,5 @@ pieces =
     ++ sameDay ++ drops ++ overtaken ++ losing
     ++ firstIn ++ statuses ++ premises ++ dayLimits ++ stacks ++ shares
     ++ redates ++ redatedOnTape ++ redatesRefused
-    ++ agreements ++ agreementsTold ++ agreementsOnTape
+    ++ agreements ++ agreementsTold ++ agreementsOnTape ++ oneDay
     ++ keptOrders ++ keptFiles ++ numbers

@@ -33,6 +33,7 @@ newFile r =
       retailer = r .retailer;
       since = r .day;
       agreement = 0;
+      entered = 0;
       count = 0;
       orders = replicate mostOrders blank;
     }
@@ -135,12 +136,18 @@ onRead f r o =
       notices = [];
     }
 
+-- Document 02, change 4: "on a day equal to S, a move out leaves R as it is if R was set by a move in read on that day" .. "The move out that
+-- is held off becomes Complete; R, S and the mark remain."
+abbrev pub isHeldOff : File → Record → Order → Bool
+isHeldOff f r o = hasKind moveOut o && eqb (r .day) (f .since) && eqb (f .entered) 1
+
 -- 7, from 3: if the day is at least S, then S is the day and R becomes Q (0 for a move out). Document 02, change 3: "A move out's read on a
--- day not before S now sets R to C, where it set 0."
+-- day not before S now sets R to C, where it set 0." Change 4: "The mark is set by every read from Scheduled of a move in on a day not before
+-- S, even when R was already its retailer; a read from Permit Pending leaves it. Any other read that sets R clears it".
 unfoldable pub supplied : File → Record → Order → File
 supplied f r o =
-    cond (is kindRead r && hasStatus scheduled o && leb (f .since) (r .day))
-    (withSupply f (cond (hasKind moveOut o) (f .agreement) (o .submitter)) (r .day))
+    cond (is kindRead r && hasStatus scheduled o && leb (f .since) (r .day) && not (isHeldOff f r o))
+    (withSupply f (cond (hasKind moveOut o) (f .agreement) (o .submitter)) (r .day) (cond (hasKind moveIn o) 1 0))
     f
 
 -- 8 cancel: Cancel Pending, W 0. Notice 5 to the TDSP.

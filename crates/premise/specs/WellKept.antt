@@ -69,6 +69,7 @@ fileKept f =
     && aRetailerOrNone (f .retailer)
     && isDay (f .since)
     && aRetailerOrNone (f .agreement)
+    && leb (f .entered) 1
     && leb (f .count) mostOrders
     && eqb (length (f .orders)) mostOrders
     && allOf orderKept (held f)
@@ -82,6 +83,7 @@ fileBlank f =
     && eqb (f .retailer) 0
     && eqb (f .since) 0
     && eqb (f .agreement) 0
+    && eqb (f .entered) 0
     && eqb (f .count) 0
     && eqb (length (f .orders)) mostOrders
     && allOf isBlank (f .orders)
@@ -97,6 +99,7 @@ pub record FileKept (f : File) : Type 0 where
   pub retailer : aRetailerOrNone (f .retailer) ≡ true
   pub since : isDay (f .since) ≡ true
   pub agreement : aRetailerOrNone (f .agreement) ≡ true
+  pub entered : leb (f .entered) 1 ≡ true
   pub orders : allOf orderKept (held f) ≡ true
   pub references : distinct (held f) ≡ true
   pub tidy : Tidy f

@@ -64,6 +64,8 @@ pub struct File {
     pub since: u16,
     // the retailer with which the owner has an agreement, 0 where there is none
     pub agreement: u32,
+    // 1 where the retailer came by a move in that was read on the day since which it holds, else 0
+    pub entered: u8,
     pub count: usize,
     pub orders: [Order; 8],
 }

@@ -24,8 +24,8 @@ places-set os i o h =
     ∙ ap (λ (m : ℕ). set os i o ++ replicate (mostOrders - m) blank) (sym (length-set os i o))
 
 module _ (f : File) (tidy : Tidy f) where
-  pub tidy-supply : (retailer since : ℕ) → Tidy (withSupply f retailer since)
-  tidy-supply retailer since = record { few = tidy .few; whole = tidy .whole }
+  pub tidy-supply : (retailer since entered : ℕ) → Tidy (withSupply f retailer since entered)
+  tidy-supply retailer since entered = record { few = tidy .few; whole = tidy .whole }
 
   -- what an order stored over another leaves
   pub set-held : (i : ℕ) (o : Order) → i < f .count → withPlaces f (f .count) (set (f .orders) i o) ≡ withOrders f (set (held f) i o)

@@ -3,7 +3,7 @@
 use Prim.Native.Nat.{ℕ, _<_}
 use mathlib.Core.Path.{_≡_, refl, sym, _∙_}
 use mathlib.Core.List.{List}
-use mathlib.Core.Bool.{true, _&&_, _||_}
+use mathlib.Core.Bool.{true, not, _&&_, _||_}
 use native.Mathlib.Omega.{arith}
 use lib.Dec.{eqb, leb}
 use lib.ListN.{length, getD, set}
@@ -20,7 +20,7 @@ use Rattle.records.specs.Records.{kindDateChange, aRetailerOrNone, wellFormed}
 use Rattle.premise.specs.declared.Order.{Order}
 use Rattle.premise.specs.declared.File.{File}
 use Rattle.premise.specs.Orders.{inReview, scheduled, hasKind, hasStatus, isOpen, isOpenOf, blank, held}
-use Rattle.premise.specs.Steps.{is, named, orderAt, taken, onPermit, onOrder, onDateChange, onNamed, supplied, changed}
+use Rattle.premise.specs.Steps.{is, named, orderAt, taken, onPermit, onOrder, onDateChange, onNamed, isHeldOff, supplied, changed}
 use Rattle.premise.specs.OnePremise.{atPlace}
 use Rattle.premise_laws.specs.Laws.{KeptFor}
 use Rattle.premise_laws.proofs.KeptOrders.{OrderKept, orders-facts, in-status}
@@ -92,7 +92,7 @@ module _ (calendar : List ℕ) (today : ℕ) (f : File) (r : Record) (o : Order)
   supplied-keeps : (premise : ℕ) → KeptFor premise f → HeaderKept premise (supplied f r o)
   unfolding supplied
   supplied-keeps premise h =
-      by-test (HeaderKept premise) (is kindRead r && hasStatus scheduled o && leb (f .since) (r .day)) _ f (λ e. record {
+      by-test (HeaderKept premise) (is kindRead r && hasStatus scheduled o && leb (f .since) (r .day) && not (isHeldOff f r o)) _ f (λ e. record {
         number = h .number;
         known = h .kept .premise;
         agreement = h .kept .agreement;
@@ -101,7 +101,9 @@ module _ (calendar : List ℕ) (today : ℕ) (f : File) (r : Record) (o : Order)
             (λ q. and-right (leb 1 (o .submitter)) (aRetailerOrNone (o .submitter)) (k .submitter));
         since = read-fits r w
             (and-left (is kindRead r) (hasStatus scheduled o)
-            (and-left (is kindRead r && hasStatus scheduled o) (leb (f .since) (r .day)) e)) .day;
+            (and-left (is kindRead r && hasStatus scheduled o) (leb (f .since) (r .day))
+            (and-left (is kindRead r && hasStatus scheduled o && leb (f .since) (r .day)) (not (isHeldOff f r o)) e))) .day;
+        entered = by-test (λ (q : ℕ). leb q 1 ≡ true) (hasKind moveIn o) 1 0 (λ q. refl) (λ q. refl);
       })
       (λ e. header-of premise f h)
 

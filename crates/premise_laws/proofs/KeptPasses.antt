@@ -5,7 +5,7 @@ use mathlib.Core.Path.{_≡_, refl, sym, ap, ap₂, _∙_}
 use mathlib.Core.List.{List, [], _∷_}
 use mathlib.Core.Bool.{Bool, true, _&&_}
 use native.Mathlib.Omega.{arith}
-use lib.Dec.{eqb}
+use lib.Dec.{eqb, leb}
 use lib.ListN.{length, length-map}
 use Rattle.lists.specs.Search.{allOf, Each}
 use Rattle.lists.proofs.TestLaws.{and-left, and-right}
@@ -106,13 +106,14 @@ module _ (near : ℕ → Bool) (today : ℕ) (f : File) where
       both-leave three (lossNotices near f) os b losses-leave
 
 -- ---- a file
--- the file of a premise, R and S in range
+-- the file of a premise, its other fields beside the orders in range
 pub record HeaderKept (premise : ℕ) (f : File) : Type 0 where
   pub number : f .premise ≡ premise
   pub known : aPremise (f .premise) ≡ true
   pub retailer : aRetailerOrNone (f .retailer) ≡ true
   pub since : isDay (f .since) ≡ true
   pub agreement : aRetailerOrNone (f .agreement) ≡ true
+  pub entered : leb (f .entered) 1 ≡ true
 
 pub header-of : (premise : ℕ) (f : File) → KeptFor premise f → HeaderKept premise f
 header-of premise f k =
@@ -122,6 +123,7 @@ header-of premise f k =
       retailer = k .kept .retailer;
       since = k .kept .since;
       agreement = k .kept .agreement;
+      entered = k .kept .entered;
     }
 
 -- with other orders
@@ -136,6 +138,7 @@ kept-with premise f os h n k d =
         retailer = h .retailer;
         since = h .since;
         agreement = h .agreement;
+        entered = h .entered;
         orders = ap (allOf orderKept) (held-with f os) ∙ orders-test os k;
         references = ap distinct (held-with f os) ∙ d;
         tidy = tidy-with f os n;
@@ -153,6 +156,7 @@ kept-agreement premise f agreement h k =
         retailer = k .kept .retailer;
         since = k .kept .since;
         agreement = h;
+        entered = k .kept .entered;
         orders = k .kept .orders;
         references = k .kept .references;
         tidy = record { few = k .kept .tidy .few; whole = k .kept .tidy .whole };

@@ -71,7 +71,7 @@ module _ (calendar : List ℕ) (today : ℕ) (r : Record) (premise retailer : �
       let fits = create-fits r w e in
       record {
         kept = kept-with premise (newFile r) []
-            (record { number = p; known = fits .premise; retailer = fits .retailer; since = fits .day; agreement = refl }) (omega arith) tt refl;
+            (record { number = p; known = fits .premise; retailer = fits .retailer; since = fits .day; agreement = refl; entered = refl }) (omega arith) tt refl;
         share = λ h. omega arith;
       }
 

@@ -18,7 +18,7 @@ use Rattle.records.specs.Records.{kindCreate, kindRetire, kindNewOrder, kindSch
 use Rattle.records.specs.Records.{kindReply, kindDayMark, kindDateChange, kindAgreement, establish, delete}
 use Rattle.premise.specs.declared.Order.{Order}
 use Rattle.premise.specs.declared.File.{File}
-use Rattle.premise.specs.Orders.{businessDays, calendarDays, places, withAgreement}
+use Rattle.premise.specs.Orders.{businessDays, calendarDays, places, withSupply, withAgreement}
 use Rattle.premise.specs.Steps.{requestedDay, makeRoom, ordered, taken, onScheduled, onPermit, onUnexecutable, onRead, supplied}
 use Rattle.premise.specs.Steps.{onCancel, onReply, onOrder, onDateChange, onNamed, changed, agreed}
 use Rattle.premise.specs.Clock.{reviewed, permitAwaited, cancelAwaited, ticked}
@@ -135,7 +135,7 @@ counted counter o =
 abbrev pub zeros : Order
 zeros = stands 0 0 0 0 0 0 0 0 0
 
--- the file of premise 7: R, S and its orders; the owner has no agreement
+-- the file of premise 7: R, S and its orders; the owner has no agreement, and R came by no move in on S
 abbrev pub file : ℕ → ℕ → List Order → File
 file retailer since os =
     record {
@@ -143,9 +143,14 @@ file retailer since os =
       retailer = retailer;
       since = since;
       agreement = 0;
+      entered = 0;
       count = length os;
       orders = os ++ replicate (8 - length os) zeros;
     }
+
+-- the same where R came by a move in that was read on S
+abbrev pub enteredFile : File → File
+enteredFile f = withSupply f (f .retailer) (f .since) 1
 
 -- T and such a file; T and no file
 abbrev pub state : ℕ → ℕ → ℕ → List Order → State
@@ -154,6 +159,11 @@ state today retailer since os = record { today = today; file = some (file retail
 -- the same with an agreement with a retailer
 abbrev pub stateWith : ℕ → ℕ → ℕ → ℕ → List Order → State
 stateWith agreement today retailer since os = record { today = today; file = some (withAgreement (file retailer since os) agreement) }
+
+-- an agreement with a retailer or 0, and R by a move in that was read on S
+abbrev pub stateEntered : ℕ → ℕ → ℕ → ℕ → List Order → State
+stateEntered agreement today retailer since os =
+    record { today = today; file = some (enteredFile (withAgreement (file retailer since os) agreement)) }
 
 abbrev pub nothing : ℕ → State
 nothing today = record { today = today; file = none }
@@ -246,6 +256,7 @@ sameFile (some f) (some g) =
     && eqb (f .retailer) (g .retailer)
     && eqb (f .since) (g .since)
     && eqb (f .agreement) (g .agreement)
+    && eqb (f .entered) (g .entered)
     && eqb (f .count) (g .count)
     && sameOrders (f .orders) (g .orders)
 

@@ -14,13 +14,13 @@ use Rattle.premise.specs.declared.Answer.the-variants.{PremiseHeld, Book
 use Rattle.premise.specs.declared.Answer.the-variants.{NotFirstIn, RetailerShareFull, StackFull, NoSuchOrder, StatusNotTaken}
 use Rattle.premise.specs.declared.Answer.the-variants.{CounterNotAbove, OrderInWindow, OtherAgreement, NotNextDay}
 use Rattle.premise.specs.Orders.{inReview, permitPending, scheduled, cancelPending, complete, cancelled, unexecutable, noRetailer}
-use Rattle.premise.specs.Orders.{blankFile, withAgreement}
+use Rattle.premise.specs.Orders.{blankFile, withSupply, withAgreement}
 use Rattle.premise.specs.Passes.{codeOrder, codeMoveOut, codeScheduled, codeLosing, codeCancel, codePermit, codeUnexecutable}
 use Rattle.premise.specs.Passes.{codeReject, codeDateChange, codeAgreementRequest, codeAgreementResponse, codeAgreementMoveIn}
 use Rattle.premise.specs.Refusals.{number}
 use Rattle.premise.specs.OnePremise.{startState}
 use Rattle.premise.specs.Pieces.Forms.{Piece, piece, keeps, damaged, keepsFiles, damagedFiles, unusedFiles, usedFiles, numbered}
-use Rattle.premise.specs.Pieces.Forms.{leaves, plain, nothing, stands, counted, zeros, file}
+use Rattle.premise.specs.Pieces.Forms.{leaves, plain, nothing, stands, counted, zeros, file, enteredFile}
 
 -- an order by its SD and status, else in range; with a W
 abbrev inStatus : ℕ → ℕ → Order
@@ -87,7 +87,7 @@ keptOrders =
 -- a file with its fields one by one
 abbrev fileOf : ℕ → ℕ → ℕ → ℕ → List Order → File
 fileOf premise retailer since count orders =
-    record { premise = premise; retailer = retailer; since = since; agreement = 0; count = count; orders = orders }
+    record { premise = premise; retailer = retailer; since = since; agreement = 0; entered = 0; count = count; orders = orders }
 
 -- an order in range with its reference and status
 abbrev referred : ℕ → ℕ → Order
@@ -130,6 +130,8 @@ keptFiles =
     ∷ piece "well kept: C from 0 to 999,999,999"
     (keepsFiles (withAgreement (file 101 5 []) 1 ∷ withAgreement (file 0 5 []) 999999999 ∷ []))
     ∷ piece "not well kept: C 1,000,000,000" (damagedFiles (withAgreement (file 101 5 []) 1000000000 ∷ []))
+    ∷ piece "well kept: the mark of a move in, 0 or 1" (keepsFiles (file 101 5 [] ∷ enteredFile (file 101 5 []) ∷ enteredFile (file 0 5 []) ∷ []))
+    ∷ piece "not well kept: a mark of 2" (damagedFiles (withSupply (file 101 5 []) 101 5 2 ∷ []))
     ∷ piece "well kept: 1 and 8 orders" (keepsFiles (file 101 5 (referred 1 scheduled ∷ []) ∷ file 101 5 eight ∷ []))
     ∷ piece "not well kept: 9 orders, 7 or 9 places"
     (damagedFiles (fileOf 7 101 5 9 eight ∷ fileOf 7 101 5 9 (eight ++ (referred 9 scheduled ∷ [])) ∷ fileOf 7 101 5 0 (replicate 7 zeros)
@@ -149,7 +151,7 @@ keptFiles =
     ∷ piece "unused: every field zero" (unusedFiles (fileOf 0 0 0 0 (replicate 8 zeros) ∷ blankFile ∷ []))
     ∷ piece "not unused: a field that is not zero"
     (usedFiles (fileOf 1 0 0 0 (replicate 8 zeros) ∷ fileOf 0 1 0 0 (replicate 8 zeros) ∷ fileOf 0 0 1 0 (replicate 8 zeros)
-    ∷ withAgreement (fileOf 0 0 0 0 (replicate 8 zeros)) 1
+    ∷ withAgreement (fileOf 0 0 0 0 (replicate 8 zeros)) 1 ∷ enteredFile (fileOf 0 0 0 0 (replicate 8 zeros))
     ∷ fileOf 0 0 0 1 (replicate 8 zeros) ∷ fileOf 0 0 0 0 (replicate 7 zeros)
     ∷ map (λ (o : Order). fileOf 0 0 0 0 (replicate 7 zeros ++ (o ∷ []))) almost))
     ∷ []

@@ -14,7 +14,7 @@ use Rattle.premise.specs.Orders.{inReview, permitPending, scheduled, can
 use Rattle.premise.specs.Passes.{codeOrder, codeMoveOut, codeScheduled, codeLosing, codeCancel, codePermit, codeUnexecutable}
 use Rattle.premise.specs.Passes.{codeReject}
 use Rattle.premise.specs.OnePremise.{State}
-use Rattle.premise.specs.Pieces.Forms.{Case, Piece, piece, tells, does, sent, nothing, state, stands, plain, with10, business}
+use Rattle.premise.specs.Pieces.Forms.{Case, Piece, piece, tells, does, sent, nothing, state, stateEntered, stands, plain, with10, business}
 use Rattle.premise.specs.Pieces.Forms.{create, retire, order, schedule, permit, unexecuted, read, cancel, reply}
 
 -- the older order: a move in, read on 4
@@ -117,21 +117,21 @@ unexecuteds =
     ∷ piece "6, told and R is Q" (gives-up 202 scheduled 15 1 (unexecutableTo 15 202 ∷ unexecutableTo 15 202 ∷ []))
     ∷ []
 
--- a read of a Scheduled order of 202 on a day: K; R and S afterwards
-abbrev reads : ℕ → ℕ → ℕ → ℕ → Case
-reads kind day retailer since =
+-- a read of a Scheduled order of 202 on a day: K; R and S afterwards, and how they stand in the file
+abbrev reads : (ℕ → ℕ → ℕ → List Order → State) → ℕ → ℕ → ℕ → ℕ → Case
+reads after kind day retailer since =
     does plain (state 10 101 5 (older ∷ stands 2 kind 202 12 15 scheduled 4 2 1 ∷ [])) (read 2 day) []
-    (state 10 retailer since (older ∷ stands 2 kind 202 12 day complete 4 2 1 ∷ []))
+    (after 10 retailer since (older ∷ stands 2 kind 202 12 day complete 4 2 1 ∷ []))
 
 unfoldable pub readings : List Piece
 readings =
-    piece "7, a move in" (reads moveIn 14 202 14)
-    ∷ piece "7, a move out" (reads moveOut 14 0 14)
-    ∷ piece "7, a standard switch" (reads standardSwitch 14 202 14)
-    ∷ piece "7, a self-selected switch" (reads selfSelectedSwitch 14 202 14)
-    ∷ piece "7, a drop" (reads massTransitionDrop 14 202 14)
-    ∷ piece "7, on S" (reads moveIn 5 202 5)
-    ∷ piece "7, on the day before S" (reads moveIn 4 101 5)
+    piece "7, a move in" (reads (stateEntered 0) moveIn 14 202 14)
+    ∷ piece "7, a move out" (reads state moveOut 14 0 14)
+    ∷ piece "7, a standard switch" (reads state standardSwitch 14 202 14)
+    ∷ piece "7, a self-selected switch" (reads state selfSelectedSwitch 14 202 14)
+    ∷ piece "7, a drop" (reads state massTransitionDrop 14 202 14)
+    ∷ piece "7, on S" (reads (stateEntered 0) moveIn 5 202 5)
+    ∷ piece "7, on the day before S" (reads state moveIn 4 101 5)
     ∷ piece "7, from Permit Pending"
     (turns (stands 2 moveIn 202 12 noDay permitPending 4 0 1) (read 2 14) [] (stands 2 moveIn 202 12 noDay inReview 4 0 1))
     ∷ []

@@ -27,13 +27,14 @@ fn blank_order() -> Order
     }
 }
 
-// A file without orders and without an agreement.
+// A file without orders, agreement and mark.
 fn empty_file(premise: u64, retailer: u32, since: u16) -> File
     ensures { λ r. ⌜ r ≡ record {
       premise = premise;
       retailer = retailer;
       since = since;
       agreement = 0;
+      entered = 0;
       count = 0;
       orders = replicate mostOrders blank;
     } ⌝ }
@@ -44,6 +45,7 @@ fn empty_file(premise: u64, retailer: u32, since: u16) -> File
         retailer: retailer,
         since: since,
         agreement: 0,
+        entered: 0,
         count: 0,
         orders: [none; premise::MOST_ORDERS],
     }

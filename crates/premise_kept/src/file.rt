@@ -12,6 +12,7 @@ pub fn file_kept(file: File) -> bool
         & (file.retailer <= records::LAST_RETAILER)
         & (file.since <= days::LAST_DAY)
         & (file.agreement <= records::LAST_RETAILER)
+        & (file.entered <= 1)
         & (file.count <= premise::MOST_ORDERS)) {
         return false;
     }

@@ -29,6 +29,7 @@ pub fn file_blank(file: File) -> bool
         & (file.retailer == 0)
         & (file.since == 0)
         & (file.agreement == 0)
+        & (file.entered == 0)
         & (file.count == 0)) {
         return false;
     }

@@ -2,37 +2,36 @@
 use Prim.Native.Nat.{ℕ, _<_}
 use mathlib.Core.Path.{_≡_, refl, ap, ap₂, subst, subst⁻¹, _∙_}
 use mathlib.Core.List.{List}
-use mathlib.Core.Bool.{cond, _&&_}
+use mathlib.Core.Bool.{cond, _&&_, not}
 use lib.Dec.{leb}
 use lib.ListN.{set, getD}
 use Rattle.lists.proofs.TestLaws.{by-test}
 use Rattle.records.specs.declared.Record.{Record}
-use Rattle.records.specs.Records.{kindRead, moveOut}
+use Rattle.records.specs.Records.{kindRead, moveIn, moveOut}
 use Rattle.premise.specs.declared.Order.{Order}
 use Rattle.premise.specs.declared.File.{File}
 use Rattle.premise.specs.declared.OrderAfter.{OrderAfter}
 use Rattle.premise.specs.Orders.{scheduled, hasStatus, hasKind, blank, held, withOrders, withSupply}
-use Rattle.premise.specs.Steps.{is, onNamed, supplied, changed}
+use Rattle.premise.specs.Steps.{is, onNamed, isHeldOff, supplied, changed}
 use Rattle.premise.specs.WellKept.{Tidy}
 use Rattle.premise.specs.Promises.{Room, DoneToOrder, DoneToFile}
 use Rattle.premise_laws.proofs.FileOrders.{tidy-supply, tidy-set}
 
 module _ (f : File) (r : Record) (o : Order) where
   -- a record changes who supplies the premise, and none of its orders
-  supply-by : (P : File → Type 0) → P f → ((retailer since : ℕ) → P (withSupply f retailer since)) → P (supplied f r o)
+  supply-by : (P : File → Type 0) → P f → ((retailer since entered : ℕ) → P (withSupply f retailer since entered)) → P (supplied f r o)
   unfolding supplied
   supply-by P same other =
-      by-test P (is kindRead r && hasStatus scheduled o && leb (f .since) (r .day))
-      (withSupply f (cond (hasKind moveOut o) (f .agreement) (o .submitter)) (r .day)) f
-      (λ e. other (cond (hasKind moveOut o) (f .agreement) (o .submitter)) (r .day)) (λ e. same)
+      by-test P (is kindRead r && hasStatus scheduled o && leb (f .since) (r .day) && not (isHeldOff f r o)) _ f
+      (λ e. other (cond (hasKind moveOut o) (f .agreement) (o .submitter)) (r .day) (cond (hasKind moveIn o) 1 0)) (λ e. same)
 
   supplied-held : held (supplied f r o) ≡ held f
-  supplied-held = supply-by (λ (g : File). held g ≡ held f) refl (λ retailer since. refl)
+  supplied-held = supply-by (λ (g : File). held g ≡ held f) refl (λ retailer since entered. refl)
 
   pub supplied-ready : Tidy f → (i : ℕ) → i < f .count → (h : File) → h ≡ supplied f r o → Tidy h × (i < h .count)
   supplied-ready tidy i b h e =
       subst⁻¹ (λ (g : File). Tidy g × (i < g .count)) e
-      (supply-by (λ (g : File). Tidy g × (i < g .count)) (tidy, b) (λ retailer since. (tidy-supply f tidy retailer since, b)))
+      (supply-by (λ (g : File). Tidy g × (i < g .count)) (tidy, b) (λ retailer since entered. (tidy-supply f tidy retailer since entered, b)))
 
 pub changed-tidy : (h : File) → Tidy h → (i : ℕ) (t : Order) (g : File) → g ≡ withOrders h (set (held h) i t) → Tidy g
 changed-tidy h tidy i t g e = subst⁻¹ Tidy e (tidy-set h tidy i t)

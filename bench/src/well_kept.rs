@@ -30,6 +30,7 @@ fn file_is_well_kept(file: &File) -> bool {
         & (file.retailer <= LARGEST_RETAILER)
         & is_day(file.since)
         & (file.agreement <= LARGEST_RETAILER)
+        & (file.moved_in <= 1)
         & all(held, order_is_well_kept)
         & all(unused, order_is_empty)
         && references_are_distinct(held)
@@ -39,7 +40,8 @@ fn file_is_well_kept(file: &File) -> bool {
 fn file_is_empty(file: &File) -> bool {
     let retailers = file.retailer | file.agreement;
     let own = file.premise | u64::from(retailers) | u64::from(file.since);
-    (own | u64::from(file.order_count) == 0) & all(&file.orders, order_is_empty)
+    let bytes = file.order_count | file.moved_in;
+    (own | u64::from(bytes) == 0) & all(&file.orders, order_is_empty)
 }
 
 /// Is every field 0? One test over all of them.

@@ -27,6 +27,8 @@ pub struct File {
     pub order_count: u8,
     /// C, the retailer of the owner's service agreement; 0 for none.
     pub agreement: u32,
+    /// 1 if a move in read on the day of `since` set the retailer.
+    pub moved_in: u8,
     /// The orders, oldest first; unused places are zero.
     pub orders: [Order; ORDERS_A_FILE],
 }
@@ -39,6 +41,7 @@ impl File {
         since: 0,
         order_count: 0,
         agreement: NO_AGREEMENT,
+        moved_in: 0,
         orders: [Order::EMPTY; ORDERS_A_FILE],
     };
 

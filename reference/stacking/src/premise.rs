@@ -213,13 +213,21 @@ fn meter_read(file: &mut File, place: usize, day: u16) {
     }
     order.set_status(status::COMPLETE);
     order.scheduled_day = day;
-    if day >= file.since {
+    let order = file.orders[place];
+    if day >= file.since && !is_held_off(file, &order, day) {
         file.since = day;
         file.retailer = match order.kind {
             kind::MOVE_OUT => file.agreement,
             _ => order.retailer,
         };
+        file.moved_in = u8::from(order.kind == kind::MOVE_IN);
     }
+}
+
+/// Both reads on one day (02, change 4): the move out of the tenant before does
+/// not take the premise from the tenant who has moved in.
+fn is_held_off(file: &File, order: &Order, day: u16) -> bool {
+    order.kind == kind::MOVE_OUT && day == file.since && file.moved_in == 1
 }
 
 /// Kind 8.

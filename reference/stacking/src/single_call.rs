@@ -52,8 +52,8 @@ fn write_book(book: &Book, out: &mut dyn Write) -> io::Result<()> {
 fn write_file(file_place: usize, file: &File, out: &mut dyn Write) -> io::Result<()> {
     writeln!(
         out,
-        "f {file_place} {} {} {} {} {}",
-        file.premise, file.retailer, file.since, file.order_count, file.agreement
+        "f {file_place} {} {} {} {} {} {}",
+        file.premise, file.retailer, file.since, file.order_count, file.agreement, file.moved_in
     )?;
     for (place, order) in file.orders.iter().enumerate() {
         if place < usize::from(file.order_count) || *order != Order::EMPTY {
@@ -97,6 +97,7 @@ fn push_book(bytes: &mut Vec<u8>, book: &Book) {
         bytes.extend(file.since.to_le_bytes());
         bytes.push(file.order_count);
         bytes.extend(file.agreement.to_le_bytes());
+        bytes.push(file.moved_in);
         for order in &file.orders {
             push_order(bytes, order);
         }
@@ -203,6 +204,7 @@ impl<'a> Left<'a> {
             since: self.two()?,
             order_count: self.byte()?,
             agreement: self.four()?,
+            moved_in: self.byte()?,
             ..File::EMPTY
         };
         for order in &mut file.orders {

@@ -3,6 +3,7 @@
 //! rules shows in one of them or on a stored tape; `reference/wrong` tries that.
 
 mod agreements;
+mod both_reads;
 mod clock;
 mod date_changes;
 mod days;
@@ -32,6 +33,7 @@ pub fn all() -> Vec<Stored> {
         records::calls(),
         date_changes::calls(),
         agreements::calls(),
+        both_reads::calls(),
         clock::calls(),
         evaluation::calls(),
         rows::calls(),

@@ -34,6 +34,7 @@ fn file_is_well_kept(file: &File) -> bool {
         && file.retailer <= LARGEST_RETAILER
         && is_day(file.since)
         && file.agreement <= LARGEST_RETAILER
+        && file.moved_in <= 1
         && held.iter().all(order_is_well_kept)
         && references_are_distinct(held)
         && unused.iter().all(|place| *place == Order::EMPTY)

@@ -31,6 +31,7 @@ fn well_kept_file(random: &mut Random, today: u16, premise: u64) -> File {
     let retailer = random.pick(&[0, 101, 202, LARGEST_RETAILER]);
     let mut file = File::new(premise, retailer, some_day(random, today));
     file.agreement = random.pick(&[0, 0, 101, 404, LARGEST_RETAILER]);
+    file.moved_in = random.below(2) as u8;
     file.order_count = random.pick(&[0, 1, 2, 3, 5, 7, 8, 8]);
     let first_reference = random.pick(&[1, 5, u32::MAX - ORDERS_A_FILE as u32]);
     // now and then one retailer has more than its share, as no tape leads to
@@ -112,11 +113,12 @@ fn place_to_damage(random: &mut Random, used: u8, places: usize) -> usize {
 }
 
 fn damage_file(random: &mut Random, file: &mut File) {
-    match random.below(5) {
+    match random.below(6) {
         0 => file.premise = random.pick(&[0, 1, 2, u64::MAX]),
         1 => file.retailer = odd_retailer(random),
         2 => file.since = odd_day(random),
         3 => file.agreement = odd_retailer(random),
+        4 => file.moved_in = random.pick(&[0, 1, 2, 255]),
         _ => file.order_count = random.pick(&[0, 1, 7, 8, 9, 255]),
     }
 }

@@ -292,6 +292,8 @@ fn day_to_schedule(random: &mut Random, today: u16, file: &File, order: &Order) 
 
 fn day_to_read(random: &mut Random, today: u16, file: &File, order: &Order) -> u16 {
     match random.below(6) {
+        // both reads on one day
+        0..=2 if file.moved_in == 1 && order.kind == kind::MOVE_OUT => file.since,
         0 => file.since.saturating_sub(1),
         1 => file.since,
         2 => order.requested_day,
@@ -313,6 +315,9 @@ fn fitting_event(random: &mut Random, today: u16, file: &File, order: &Order) ->
         status::IN_REVIEW if is_move => random.pick(&[4, 4, 4, 4, 4, 6, 8, 11, 11]),
         status::IN_REVIEW => random.pick(&[4, 4, 4, 4, 4, 6, 8]),
         status::PERMIT_PENDING => random.pick(&[4, 4, 6, 7, 7, 8]),
+        status::SCHEDULED if order.kind == kind::MOVE_OUT && file.moved_in == 1 => {
+            random.pick(&[6, 7, 7, 7, 7, 8, 11])
+        }
         status::SCHEDULED if is_move && is_far => random.pick(&[6, 7, 8, 11, 11, 11]),
         status::SCHEDULED if is_move => random.pick(&[6, 7, 7, 8, 8, 8, 11]),
         status::SCHEDULED => random.pick(&[6, 7, 7, 8, 8]),

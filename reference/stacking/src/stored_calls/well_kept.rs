@@ -83,6 +83,7 @@ fn kept() -> Vec<Stored> {
     most.retailer = 999_999_999;
     most.since = 4_095;
     most.agreement = 999_999_999;
+    most.moved_in = 1;
     let last = book(4_094, &[File::new(1, 0, 0), most]);
     let first = book(
         0,
@@ -114,6 +115,10 @@ fn kept() -> Vec<Stored> {
         }),
         with_order("well kept: Unexecutable without a day", 7, |order| {
             order.scheduled_day = NO_DAY
+        }),
+        marked("well kept: the mark, with and without R", |book| {
+            book.files[0].moved_in = 1;
+            book.files[1].moved_in = 1;
         }),
         marked("well kept: C 1, with and without R", |book| {
             book.files[0].agreement = 1;
@@ -156,6 +161,8 @@ fn heads() -> Vec<Stored> {
         marked("row 2: C 1,000,000,000", |book| {
             book.files[1].agreement = 1_000_000_000
         }),
+        marked("row 2: a mark of 2", |book| book.files[1].moved_in = 2),
+        marked("row 2: a mark of 255", |book| book.files[2].moved_in = 255),
         marked("row 2: C 4,294,967,295", |book| {
             book.files[0].agreement = u32::MAX
         }),
@@ -294,6 +301,7 @@ fn unused() -> Vec<Stored> {
         unused_file("row 2: R in an unused file", |file| file.retailer = 1),
         unused_file("row 2: S in an unused file", |file| file.since = 1),
         unused_file("row 2: C in an unused file", |file| file.agreement = 1),
+        unused_file("row 2: a mark in an unused file", |file| file.moved_in = 1),
         unused_file("row 2: a count in an unused file", |file| {
             file.order_count = 1
         }),

@@ -136,7 +136,7 @@ fn premises_rise() {
 }
 
 #[test]
-fn a_file_has_its_retailers_and_since_in_range() {
+fn a_file_has_its_retailers_since_and_mark_in_range() {
     for place in 0..3 {
         for retailer in [0, 1, 999_999_999] {
             assert!(!answered_2(&with(
@@ -153,6 +153,10 @@ fn a_file_has_its_retailers_and_since_in_range() {
             assert!(answered_2(&with(
                 |book| book.files[place].agreement = retailer
             )));
+        }
+        for moved_in in 0..=255 {
+            let changed = with(|book| book.files[place].moved_in = moved_in);
+            assert_eq!(answered_2(&changed), moved_in > 1);
         }
         for since in [0, 4_095] {
             assert!(!answered_2(&with(|book| book.files[place].since = since)));
@@ -335,6 +339,7 @@ fn unused_places_of_the_book_are_zero() {
         assert!(answered_2(&with(|book| book.files[place].retailer = 1)));
         assert!(answered_2(&with(|book| book.files[place].since = 1)));
         assert!(answered_2(&with(|book| book.files[place].agreement = 1)));
+        assert!(answered_2(&with(|book| book.files[place].moved_in = 1)));
         assert!(answered_2(&with(|book| book.files[place].order_count = 1)));
         for change in ORDER_FIELDS {
             for order_place in 0..ORDERS_A_FILE {

@@ -84,6 +84,8 @@ pub struct Coverage {
     agreements_told: u64,
     /// Move outs that left a premise to the holder of its service agreement.
     agreements_read: u64,
+    /// Move outs read on the day of a move in.
+    held_off: u64,
     /// Records but a scheduling and a mark that told of a move out.
     told_later: u64,
     branches: [u64; BRANCHES.len()],
@@ -231,10 +233,13 @@ impl Coverage {
         let is_new = matches!(entry, OrderEntry::New(_));
         self.dropped += u64::from(is_new && before.order_count == file.order_count);
         if let Some((order, Event::MeterRead { day })) = named_order(before, entry) {
-            let in_time = day >= before.since;
-            let to_agreement = order.kind == kind::MOVE_OUT && before.agreement != NO_AGREEMENT;
+            let in_time = order.is_scheduled() && day >= before.since;
+            let is_held_off = file.retailer == before.retailer && file.moved_in == 1;
+            let is_move_out = order.kind == kind::MOVE_OUT;
+            let to_agreement = before.agreement != NO_AGREEMENT && !is_held_off;
             self.late_reads += u64::from(order.is_scheduled() && !in_time);
-            self.agreements_read += u64::from(order.is_scheduled() && in_time && to_agreement);
+            self.agreements_read += u64::from(in_time && is_move_out && to_agreement);
+            self.held_off += u64::from(in_time && is_move_out && is_held_off);
         }
         file
     }
@@ -292,6 +297,7 @@ impl Coverage {
                 "a move out's read for the holder of an agreement",
                 self.agreements_read,
             ),
+            ("a move out's read held off by a move in's", self.held_off),
         ] {
             lines.push((name.into(), count));
         }

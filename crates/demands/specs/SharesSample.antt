@@ -57,6 +57,7 @@ file7 =
       retailer = 101;
       since = 0;
       agreement = 0;
+      entered = 0;
       count = 5;
       orders = (dropped 1 202 ∷ dropped 2 202 ∷ dropped 3 202 ∷ dropped 4 202 ∷ dropped 5 203 ∷ []) ++ replicate 3 blank;
     }

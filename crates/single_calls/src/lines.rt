@@ -97,6 +97,7 @@ fn say_file(place: usize, f: File) {
             f.since as u64,
             f.count as u64,
             f.agreement as u64,
+            f.entered as u64,
         ],
     );
     let mut i: usize = 0;

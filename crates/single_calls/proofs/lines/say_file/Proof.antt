@@ -19,6 +19,9 @@ cast-t13 c = search needs
 cast-t17 : tie.Need-cast-t17 Inv-loop μ-loop
 cast-t17 c = search needs
 
+cast-t19 : tie.Need-cast-t19 Inv-loop μ-loop
+cast-t19 c = search needs
+
 slice-aggregate-say : tie.Need-slice-aggregate-say Inv-loop μ-loop
 slice-aggregate-say c = search needs
 
@@ -61,6 +64,7 @@ say-file-spec =
     cast-t11
     cast-t13
     cast-t17
+    cast-t19
     slice-aggregate-say
     say-requires
     loop-holds

@@ -20,14 +20,14 @@ use Rattle.demands.specs.Tapes.{tapeOf, Plays}
 use Rattle.demands.proofs.Callers.{at-most-64-calls}
 
 -- a tape that demand 3 takes without a look at the books on the way: bytes, and at most 64 records
-abbrev byteTest : List ℕ → Bool
+abbrev pub byteTest : List ℕ → Bool
 byteTest bytes = allOf (λ (x : ℕ). ltb x 256) bytes
 
 pub record Short (tape : List (List ℕ)) : Type 0 where
   pub real : allOf byteTest tape ≡ true
   pub few : length tape ≤ mostFiles
 
-are-bytes : (xs : List ℕ) → byteTest xs ≡ true → Bytes xs
+pub are-bytes : (xs : List ℕ) → byteTest xs ≡ true → Bytes xs
 are-bytes [] e = tt
 are-bytes (x ∷ xs) e =
     (ltb-true x 256 (and-left (ltb x 256) (byteTest xs) e), are-bytes xs (and-right (ltb x 256) (byteTest xs) e))

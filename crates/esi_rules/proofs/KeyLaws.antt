@@ -14,7 +14,7 @@ use Rattle.lists.proofs.TestLaws.{and-left, and-right}
 use Rattle.lists.proofs.SearchLaws.{each-of-all, each-map}
 use Rattle.records.specs.Layout.{Bytes, recordLength, number, fieldOf}
 use Rattle.records.proofs.Decode.{field-of-first}
-use Rattle.records.proofs.Fields.{bytes-drop}
+use Rattle.records.proofs.Fields.{bytes-drop, bytes-take, number-decides}
 use Rattle.esi_rules.specs.declared.Key.{Key}
 use Rattle.esi_rules.specs.Packed.{lastDigit, isDigit, Digits, isUnused, halves, packed}
 use Rattle.esi_rules.specs.Distinct.{distinct}
@@ -23,7 +23,7 @@ use Rattle.esi_rules.specs.Directory.{recordKept, sameDigits, sameId, sa
 use Rattle.esi_rules.specs.LookUp.{hasDigits}
 use Rattle.esi_rules.specs.Keys.{keyWidth, firstWidth, lastWidth, keyOf, keyBytes, sameKey, hasKey, hasEither, clashes}
 use Rattle.esi_rules.proofs.Packing.{packed-decides, packs-back, length-packed, packed-bytes}
-use Rattle.esi_rules.proofs.Rows.{Long, Shaped, shaped, each-both, bytes-take}
+use Rattle.esi_rules.proofs.Rows.{Long, Shaped, shaped, each-both}
 use Rattle.esi_rules.proofs.Distinctness.{distinct-either, distinct-agree}
 
 -- two tests that each say the other
@@ -53,14 +53,6 @@ same-swap xs ys = agree (sameDigits xs ys) (sameDigits ys xs) (turned xs ys) (tu
     turned cs ds h = rw (same-true cs ds h) (same-refl ds)
 
 -- ---- numbers decide their bytes
-number-decides : (xs ys : List ℕ) → Bytes xs → Bytes ys → length xs ≡ length ys → number xs ≡ number ys → xs ≡ ys
-number-decides [] [] h k l e = refl
-number-decides [] (y ∷ ys) h k l e = absurd (omega arith)
-number-decides (x ∷ xs) [] h k l e = absurd (omega arith)
-number-decides (x ∷ xs) (y ∷ ys) h k l e =
-    ap₂ (λ (b : ℕ) (bs : List ℕ). b ∷ bs) (omega (arith, h .0, k .0))
-    (number-decides xs ys (h .1) (k .1) (omega arith) (omega (arith, h .0, k .0)))
-
 key-decides : (xs ys : List ℕ) → length xs ≡ keyWidth → length ys ≡ keyWidth → Bytes xs → Bytes ys → sameKey (keyOf xs) (keyOf ys) ≡ true
     → xs ≡ ys
 unfolding keyOf

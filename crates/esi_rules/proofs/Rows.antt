@@ -9,7 +9,7 @@ use Rattle.lists.specs.Search.{Each}
 use Rattle.records.specs.Layout.{Bytes, Field, recordLength, number, fieldOf}
 use Rattle.records.specs.Notices.{rows}
 use Rattle.records.proofs.Decode.{field-of-first}
-use Rattle.records.proofs.Fields.{bytes-drop}
+use Rattle.records.proofs.Fields.{bytes-drop, bytes-take}
 use Rattle.esi_rules.specs.Directory.{records}
 
 -- ---- from a place on
@@ -51,11 +51,6 @@ Long row = length row ≡ recordLength
 pub record Shaped (row : List ℕ) : Type 0 where
   pub long : Long row
   pub bytes : Bytes row
-
-pub bytes-take : (n : ℕ) (xs : List ℕ) → Bytes xs → Bytes (take n xs)
-bytes-take zero xs h = tt
-bytes-take (suc n) [] h = tt
-bytes-take (suc n) (x ∷ xs) h = (h .0, bytes-take n xs (h .1))
 
 long-rows : (n : ℕ) (bytes : List ℕ) → recordLength * n ≤ length bytes → Each Long (rows n bytes)
 long-rows zero bytes h = tt

@@ -1,6 +1,6 @@
 -- Laws of the layout, over any width and any field. Assumes nothing.
 use Prim.Native.Nat.{ℕ, zero, suc, _/_, _^_, _<_}
-use mathlib.Core.Path.{_≡_, refl, ap}
+use mathlib.Core.Path.{_≡_, refl, ap, ap₂}
 use mathlib.Core.List.{List, [], _∷_}
 use native.Mathlib.Nat.{mod-lt, mod-add-div, pow-suc, one-le-pow}
 use native.Mathlib.Omega.{arith}
@@ -27,6 +27,11 @@ bytes-drop zero xs h = h
 bytes-drop (suc n) [] h = tt
 bytes-drop (suc n) (x ∷ xs) h = bytes-drop n xs (h .1)
 
+pub bytes-take : (n : ℕ) (xs : List ℕ) → Bytes xs → Bytes (take n xs)
+bytes-take zero xs h = tt
+bytes-take (suc n) [] h = tt
+bytes-take (suc n) (x ∷ xs) h = (h .0, bytes-take n xs (h .1))
+
 -- every element is a byte, where each index has one: what the checker knows of a lent slice
 pub bytes-each : (xs : List ℕ) → ((i : ℕ) → getD xs i 0 < 256) → Bytes xs
 bytes-each [] h = tt
@@ -47,3 +52,12 @@ number-below (suc width) (x ∷ xs) h = rw pow-suc (omega (arith, number-below w
 pub field-below : (field : Field) (xs : List ℕ) → Bytes xs → fieldOf field xs < 256 ^ field .width
 unfolding fieldOf
 field-below field xs h = number-below (field .width) (drop (field .start) xs) (bytes-drop (field .start) xs h)
+
+-- As many bytes that give the same number are the same.
+pub number-decides : (xs ys : List ℕ) → Bytes xs → Bytes ys → length xs ≡ length ys → number xs ≡ number ys → xs ≡ ys
+number-decides [] [] h k l e = refl
+number-decides [] (y ∷ ys) h k l e = absurd (omega arith)
+number-decides (x ∷ xs) [] h k l e = absurd (omega arith)
+number-decides (x ∷ xs) (y ∷ ys) h k l e =
+    ap₂ (λ (b : ℕ) (bs : List ℕ). b ∷ bs) (omega (arith, h .0, k .0))
+    (number-decides xs ys (h .1) (k .1) (omega arith) (omega (arith, h .0, k .0)))

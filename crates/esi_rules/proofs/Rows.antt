@@ -6,9 +6,8 @@ use native.Mathlib.Omega.{arith}
 use lib.ListN.{length, take, drop, length-drop}
 use lib.Seq.{drop-drop, length-take-le}
 use Rattle.lists.specs.Search.{Each}
-use Rattle.records.specs.Layout.{Bytes, Field, recordLength, number, fieldOf}
+use Rattle.records.specs.Layout.{Bytes, recordLength}
 use Rattle.records.specs.Notices.{rows}
-use Rattle.records.proofs.Decode.{field-of-first}
 use Rattle.records.proofs.Fields.{bytes-drop, bytes-take}
 use Rattle.esi_rules.specs.Directory.{records}
 
@@ -30,14 +29,6 @@ pub records-none : (bytes : List ℕ) (at : ℕ) → length bytes - at < recordL
 records-none bytes at h =
     let e : length (drop at bytes) / recordLength ≡ 0 = omega (arith, length-drop at bytes) in
     ap (λ (n : ℕ). rows n (drop at bytes)) e
-
--- a field of the record from a place on
-pub field-at : (field : Field) (bytes : List ℕ) (at : ℕ) → field .start + field .width ≤ recordLength
-    → fieldOf field (take recordLength (drop at bytes)) ≡ number (take (field .width) (drop (at + field .start) bytes))
-unfolding fieldOf
-field-at field bytes at h =
-    field-of-first field recordLength (drop at bytes) h
-    ∙ ap (λ (l : List ℕ). number (take (field .width) l)) (drop-drop (field .start) at bytes)
 
 -- ---- every record
 -- two facts of each element, as one

@@ -1,12 +1,12 @@
 -- A field is read from the first bytes alone, and what is read from bytes goes into its field. Assumes nothing.
 use Prim.Native.Nat.{ℕ, zero, suc, _+_, _≤_}
-use mathlib.Core.Path.{_≡_, refl, ap}
+use mathlib.Core.Path.{_≡_, refl, ap, _∙_}
 use mathlib.Core.List.{List, [], _∷_}
 use native.Mathlib.Omega.{arith}
 use lib.ListN.{take, drop}
-use lib.Seq.{take-take}
+use lib.Seq.{take-take, drop-drop}
 use Rattle.records.specs.Layout.{Field, Bytes, kindField, detailField, dayField, referenceField, premiseField, retailerField, number}
-use Rattle.records.specs.Layout.{fieldOf}
+use Rattle.records.specs.Layout.{recordLength, fieldOf}
 use Rattle.records.specs.Notices.{decode, FitsFields}
 use Rattle.records.proofs.Fields.{field-below}
 
@@ -22,6 +22,14 @@ pub field-of-first : (field : Field) (n : ℕ) (bytes : List ℕ) → field .sta
     → fieldOf field (take n bytes) ≡ fieldOf field bytes
 unfolding fieldOf
 field-of-first field n bytes h = ap number (take-drop-take (field .start) (field .width) n bytes h)
+
+-- a field of the record from a place on
+pub field-at : (field : Field) (bytes : List ℕ) (at : ℕ) → field .start + field .width ≤ recordLength
+    → fieldOf field (take recordLength (drop at bytes)) ≡ number (take (field .width) (drop (at + field .start) bytes))
+unfolding fieldOf
+field-at field bytes at h =
+    field-of-first field recordLength (drop at bytes) h
+    ∙ ap (λ (l : List ℕ). number (take (field .width) l)) (drop-drop (field .start) at bytes)
 
 -- a notice from bytes: each of its numbers goes into its field
 pub decode-fits : (bytes : List ℕ) → Bytes bytes → FitsFields (decode bytes)

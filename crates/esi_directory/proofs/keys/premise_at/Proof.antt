@@ -3,7 +3,7 @@ use mathlib.Core.Path.{sym, _∙_}
 use borrow.Author.Needs.{needs}
 use native.Mathlib.Omega.{arith}
 use Rattle.esi_rules.specs.Directory.{premiseField}
-use Rattle.esi_rules.proofs.Rows.{field-at}
+use Rattle.records.proofs.Decode.{field-at}
 use Rattle.esi_directory.proofs.keys.premise_at.Statement.{statement}
 use Rattle.esi_directory.proofs.keys.premise_at.Tie as tie
 

@@ -1,0 +1,5 @@
+pub mod Readings
+pub mod Cursors
+pub mod Parts
+pub mod Nearest
+pub mod UpTo

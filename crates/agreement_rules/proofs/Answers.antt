@@ -49,7 +49,8 @@ module _ (ours theirs : List ℕ) (real : Bytes ours) (real₂ : Bytes theirs) w
 
   ranged : Each Premise both
   ranged =
-      each-append Premise (premisesOf us) (premisesOf them) (named-ranged us (cut-bytes ours real)) (named-ranged them (cut-bytes theirs real₂))
+      each-append Premise (premisesOf us) (premisesOf them) (named-ranged us (cut-bytes ours real))
+      (named-ranged them (cut-bytes theirs real₂))
 
   found : MarksAgree ours theirs → (o : Option ℕ) → Smallest (differAt us them) both o → Tells ours theirs (answerOf o)
   found marks none s =

@@ -66,6 +66,7 @@ allowed calendar start tape ms u c =
 pub yes-means-equal-books : YesMeansEqualBooks
 yes-means-equal-books calendar start ours theirs answer u v compared said ms ns c d =
     let agree = yes-exactly ours theirs answer u v compared .0 said in
-    demand-3 .shuffled calendar start ms ns (c .played) (allowed calendar start ours ms u c) (d .played) (allowed calendar start theirs ns v d)
+    demand-3 .shuffled calendar start ms ns (c .played) (allowed calendar start ours ms u c) (d .played)
+    (allowed calendar start theirs ns v d)
     (λ premise i.
     own-of-made premise ms ∙ ap (ownOf premise) (c .fed) ∙ agree premise i ∙ sym (own-of-made premise ns ∙ ap (ownOf premise) (d .fed)))

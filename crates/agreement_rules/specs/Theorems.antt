@@ -63,8 +63,8 @@ NoGivesPremise =
     (ours theirs : List ℕ) (answer : Agreement) → Bytes ours → Bytes theirs → Compared ours theirs answer
     → (premise : ℕ) → 0 < premise → SaysNo answer premise ↔ SmallestDiffers ours theirs premise
 
--- ---- "When it says yes, and neither tape is answered 6 anywhere, both tapes lead to equal books from one fresh book under one calendar with
--- full notice space"
+-- ---- "When it says yes, and neither tape is answered 6 anywhere, both tapes lead to equal books from one fresh book under one calendar
+-- with full notice space"
 -- record calls made of a whole tape, one for each of its records in order, each on the book that the one before returned, with at least
 -- 24,576 bytes lent each time, and none answered 6
 pub record TapeCalls (calendar : List ℕ) (start : ℕ) (tape : List ℕ) (ms : List Made) : Type 0 where

@@ -16,7 +16,7 @@ use Rattle.demands.specs.Demand3.{concerns}
 use Rattle.demands.specs.Tapes.{ownOf}
 use Rattle.agreement_rules.specs.Agreement.{recordsIn, sameBytes, sameRecords}
 use Rattle.agreement_rules.proofs.Cuts.{cut-at}
-use Rattle.tape_agreement.specs.Walks.{Reaches}
+use Rattle.tape_agreement.specs.Walks.{recordAt, Reaches}
 
 -- fewer than 24 bytes are no record, or one that is malformed
 pub short-cut : (P : List (List ℕ) → Type 0) (tape : List ℕ) → length tape < recordLength → P []
@@ -31,9 +31,6 @@ short-cut P (byte ∷ tape) h none one =
     subst P (sym e) (one bytes (reading-length bytes (λ l. omega (arith, l, length-take recordLength (byte ∷ tape)))))
 
 -- ---- one tape
-abbrev pub recordAt : List ℕ → ℕ → List ℕ
-recordAt tape at = take recordLength (drop at tape)
-
 abbrev pub ownFrom : ℕ → List ℕ → ℕ → List (List ℕ)
 ownFrom premise tape at = ownOf premise (recordsIn (drop at tape))
 

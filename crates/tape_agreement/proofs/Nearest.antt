@@ -16,8 +16,8 @@ use Rattle.records.specs.Records.{reading, kindDayMark}
 use Rattle.premise.specs.Steps.{is}
 use Rattle.agreement_rules.specs.Agreement.{recordsIn, named, premisesOf}
 use Rattle.agreement_rules.proofs.Cuts.{cut-at}
-use Rattle.tape_agreement.specs.Walks.{nearer, nearest}
-use Rattle.tape_agreement.proofs.Cursors.{recordAt, short-cut}
+use Rattle.tape_agreement.specs.Walks.{recordAt, nearer, nearest}
+use Rattle.tape_agreement.proofs.Cursors.{short-cut}
 
 -- ---- from a place on
 module _ (last : ℕ) (tape : List ℕ) where

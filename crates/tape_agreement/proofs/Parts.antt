@@ -13,7 +13,7 @@ use Rattle.records.proofs.Decode.{field-at}
 use Rattle.records.proofs.Fields.{bytes-drop, bytes-take, number-decides}
 use Rattle.agreement_rules.specs.Agreement.{sameBytes}
 use Rattle.agreement_rules.proofs.Lists.{bytes-same, bytes-self}
-use Rattle.tape_agreement.proofs.Cursors.{recordAt}
+use Rattle.tape_agreement.specs.Walks.{recordAt}
 
 -- ---- lists of 24
 abbrev part : ℕ → List ℕ → List ℕ
@@ -90,11 +90,11 @@ module _ (ours : List ℕ) (here : ℕ) (theirs : List ℕ) (there : ℕ) (h : h
       go : (b : Bool) → eqb (number (take 8 (drop (here + 16) ours))) (number (take 8 (drop (there + 16) theirs))) ≡ b
           → sameBytes one other ≡ b
       go true e =
-          let third = alike 16 (omega arith) (eqb-true (number (take 8 (drop (here + 16) ours))) (number (take 8 (drop (there + 16) theirs))) e) in
+          let equal = eqb-true (number (take 8 (drop (here + 16) ours))) (number (take 8 (drop (there + 16) theirs))) e in
           let same : one ≡ other =
           in-three one long
           ∙ ap₂ (λ (xs ys : List ℕ). xs ++ ys) (alike 0 (omega arith) (from-start ours here ∙ first ∙ sym (from-start theirs there)))
-          (ap₂ (λ (xs ys : List ℕ). xs ++ ys) (alike 8 (omega arith) second) third)
+          (ap₂ (λ (xs ys : List ℕ). xs ++ ys) (alike 8 (omega arith) second) (alike 16 (omega arith) equal))
           ∙ sym (in-three other long₂) in
           subst (λ (xs : List ℕ). sameBytes one xs ≡ true) same (bytes-self one)
       go false e =

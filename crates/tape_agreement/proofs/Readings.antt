@@ -16,22 +16,23 @@ use Rattle.records.specs.Layout.{recordLength, kindField, premiseField, number,
 use Rattle.records.specs.Records.{reading, kindDayMark}
 use Rattle.records.proofs.Decode.{field-at}
 use Rattle.records.proofs.Readings.{says}
+use Rattle.premise.specs.Steps.{is}
 use Rattle.demands.specs.Demand3.{concerns}
-use Rattle.tape_agreement.specs.Walks.{isSaid, nearer}
+use Rattle.tape_agreement.specs.Walks.{recordAt, isSaid, nearer}
 
 -- ---- the two fields of the record from a place on
-pub kind-at : (tape : List ℕ) (at : ℕ) → at < length tape → fieldOf kindField (take recordLength (drop at tape)) ≡ getD tape at 0
+pub kind-at : (tape : List ℕ) (at : ℕ) → at < length tape → fieldOf kindField (recordAt tape at) ≡ getD tape at 0
 kind-at tape at h =
     let e : at + 0 ≡ at = omega arith in
     let first : number (take 1 (drop at tape)) ≡ getD tape at 0 = rw (drop-cons tape at 0 h) (omega arith) in
     field-at kindField tape at (omega arith) ∙ ap (λ (from : ℕ). number (take 1 (drop from tape))) e ∙ first
 
-pub premise-at : (tape : List ℕ) (at : ℕ) → fieldOf premiseField (take recordLength (drop at tape)) ≡ number (take 8 (drop (at + 8) tape))
+pub premise-at : (tape : List ℕ) (at : ℕ) → fieldOf premiseField (recordAt tape at) ≡ number (take 8 (drop (at + 8) tape))
 premise-at tape at = field-at premiseField tape at (omega arith)
 
 -- ---- the record as it is lent to be read
 pub lent-said : (tape : List ℕ) (at : ℕ) (d : Reading) → reading (take (at + recordLength - at) (drop at tape)) ≡ d
-    → isSaid d ≡ isSaid (reading (take recordLength (drop at tape)))
+    → isSaid d ≡ isSaid (reading (recordAt tape at))
 lent-said tape at d e =
     let long : at + recordLength - at ≡ recordLength = omega arith in
     ap isSaid (sym e ∙ ap (λ (n : ℕ). reading (take n (drop at tape))) long)
@@ -61,7 +62,7 @@ module _ (bytes : List ℕ) (premise : ℕ) where
   pub concerns-own : fieldOf premiseField bytes ≡ premise → concerns premise (reading bytes) ≡ isSaid (reading bytes)
   concerns-own own =
       by-reading (λ (d : Reading). concerns premise d ≡ isSaid d) bytes refl
-      (λ r f. ap (cond (eqb (r .kind) kindDayMark) true) (eq-eqb (r .premise) premise (f .premise ∙ own)) ∙ either (eqb (r .kind) kindDayMark))
+      (λ r f. ap (cond (is kindDayMark r) true) (eq-eqb (r .premise) premise (f .premise ∙ own)) ∙ either (is kindDayMark r))
     where
       either : (b : Bool) → cond b true true ≡ true
       either true = refl
@@ -101,7 +102,8 @@ module _ (bytes : List ℕ) (last so-far : ℕ) where
 
   pub nearer-malformed : isSaid (reading bytes) ≡ false → nearer last so-far (reading bytes) ≡ so-far
   nearer-malformed =
-      by-reading (λ (d : Reading). isSaid d ≡ false → nearer last so-far d ≡ so-far) bytes (λ e. refl) (λ r f e. absurd (false≢true (sym e)))
+      by-reading (λ (d : Reading). isSaid d ≡ false → nearer last so-far d ≡ so-far) bytes (λ e. refl)
+      (λ r f e. absurd (false≢true (sym e)))
 
   -- it does, and the record is well formed and no day mark
   pub nearer-named : last < fieldOf premiseField bytes → fieldOf premiseField bytes < so-far → (fieldOf kindField bytes ≡ kindDayMark → ⊥)

@@ -18,12 +18,8 @@ use Rattle.agreement_rules.proofs.Lists.{records-same, records-differ}
 use Rattle.agreement_rules.proofs.Own.{own-unnamed, marks-too, named-ranged, by-names}
 use Rattle.agreement_rules.proofs.Cuts.{cut-bytes}
 use Rattle.agreement_rules.proofs.Answers.{is-promised}
-use Rattle.tape_agreement.specs.Walks.{nearest}
+use Rattle.tape_agreement.specs.Walks.{lastPremise, nextNamed}
 use Rattle.tape_agreement.proofs.Nearest.{Next, next-is}
-
--- the largest premise there is
-abbrev pub lastPremise : ℕ
-lastPremise = 18446744073709551615
 
 pub record UpTo (ours theirs : List ℕ) (last : ℕ) : Type 0 where
   pub marks : MarksAgree ours theirs
@@ -49,7 +45,8 @@ module _ (ours theirs : List ℕ) where
 
   own-0 : (rs : List (List ℕ)) → Each Bytes rs → marksOf rs ≡ ownOf 0 rs
   own-0 rs u =
-      sym (own-unnamed 0 rs (each-map Premise (λ (n : ℕ). n ≡ 0 → ⊥) (λ n p e. omega (arith, p .above, e)) (premisesOf rs) (named-ranged rs u)))
+      sym (own-unnamed 0 rs
+      (each-map Premise (λ (n : ℕ). n ≡ 0 → ⊥) (λ n p e. omega (arith, p .above, e)) (premisesOf rs) (named-ranged rs u)))
 
   pub marks-differ : Bytes ours → Bytes theirs → sameAt 0 ≡ false → Compared ours theirs MarksDiffer
   marks-differ u v e =
@@ -59,7 +56,7 @@ module _ (ours theirs : List ℕ) where
   -- ---- the next premise
   module _ (last : ℕ) (h : last < lastPremise) (a : UpTo ours theirs last) where
     abbrev next : ℕ
-    next = nearest last (nearest last lastPremise us) them
+    next = nextNamed last us them
 
     is-next : Next last lastPremise next (premisesOf us ++ premisesOf them)
     is-next = next-is last lastPremise us them
@@ -79,8 +76,8 @@ module _ (ours theirs : List ℕ) where
             let above = ltb-true last premise e in
             by-names us them premise (a .marks)
             (each-map (λ (n : ℕ). last < n → next ≤ n) (λ (n : ℕ). n ≡ premise → ownOf n us ≡ ownOf n them)
-            (λ n least is. let le = least (omega (arith, above, is)) in absurd (omega (arith, le, l, is))) (premisesOf us ++ premisesOf them)
-            (is-next .between))
+            (λ n least is. let le = least (omega (arith, above, is)) in absurd (omega (arith, le, l, is)))
+            (premisesOf us ++ premisesOf them) (is-next .between))
         go false e = a .agree premise p (ltb-false last premise e)
 
     pub next-differs : Bytes ours → Bytes theirs → sameAt next ≡ false → Compared ours theirs (Differ next)

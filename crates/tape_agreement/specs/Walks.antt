@@ -14,6 +14,10 @@ use Rattle.demands.specs.Demand3.{concerns}
 use Rattle.demands.specs.Tapes.{ownOf}
 use Rattle.agreement_rules.specs.Agreement.{recordsIn}
 
+-- the 24 bytes from a place on
+abbrev pub recordAt : List ℕ → ℕ → List ℕ
+recordAt tape at = take recordLength (drop at tape)
+
 -- whether bytes are well formed
 abbrev pub isSaid : Reading → Bool
 isSaid Malformed = false
@@ -30,9 +34,18 @@ abbrev pub nearest : ℕ → ℕ → List (List ℕ) → ℕ
 nearest last limit [] = limit
 nearest last limit (bytes ∷ rest) = nearest last (nearer last limit (reading bytes)) rest
 
--- a place that a walk for a premise reaches from another: nothing that concerns it stands between, and the record there does, if one is left
+-- the largest premise there is
+abbrev pub lastPremise : ℕ
+lastPremise = 18446744073709551615
+
+-- the smallest that either of two tapes names above the last one; the largest there is where neither names one
+abbrev pub nextNamed : ℕ → List (List ℕ) → List (List ℕ) → ℕ
+nextNamed last us them = nearest last (nearest last lastPremise us) them
+
+-- a place that a walk for a premise reaches from another: nothing that concerns it stands between, and the record there does, if one is
+-- left
 pub record Reaches (premise : ℕ) (tape : List ℕ) (from to : ℕ) : Type 0 where
   pub onward : from ≤ to
   pub within : to ≤ length tape
   pub rest : ownOf premise (recordsIn (drop to tape)) ≡ ownOf premise (recordsIn (drop from tape))
-  pub stands : recordLength ≤ length tape - to → concerns premise (reading (take recordLength (drop to tape))) ≡ true
+  pub stands : recordLength ≤ length tape - to → concerns premise (reading (recordAt tape to)) ≡ true

@@ -1,12 +1,12 @@
 // The record from a place of a tape on: two fields are looked at before it is read whole.
 ghost use mathlib.Core.Path.{_≡_};
 ghost use Prim.Native.Nat.{_+_, _≤_};
-ghost use lib.ListN.{length, take, drop};
+ghost use lib.ListN.{length};
 ghost use Rattle.records.specs.Layout.{recordLength};
 ghost use Rattle.records.specs.Records.{reading};
 ghost use Rattle.demands.specs.Demand3.{concerns};
 ghost use Rattle.agreement_rules.specs.Agreement.{sameBytes};
-ghost use Rattle.tape_agreement.specs.Walks.{isSaid, nearer};
+ghost use Rattle.tape_agreement.specs.Walks.{recordAt, isSaid, nearer};
 use record_bytes::eight;
 use record_bytes::read_record;
 use records::RECORD_LENGTH;
@@ -17,7 +17,7 @@ use records::record_kind;
 // Whether it is well formed.
 pub fn is_formed(tape: &[u8], at: usize) -> bool
     requires { ⌜ at + recordLength ≤ length (now tape) ⌝ }
-    ensures { λ r. ⌜ r ≡ isSaid (reading (take recordLength (drop at (now (tape .entry))))) ⌝ }
+    ensures { λ r. ⌜ r ≡ isSaid (reading (recordAt (now (tape .entry)) at)) ⌝ }
 {
     let said = read_record(&tape[at..at + RECORD_LENGTH]);
     match said {
@@ -29,7 +29,7 @@ pub fn is_formed(tape: &[u8], at: usize) -> bool
 // Whether it concerns a premise.
 pub fn concerns_at(tape: &[u8], at: usize, premise: u64) -> bool
     requires { ⌜ at + recordLength ≤ length (now tape) ⌝ }
-    ensures { λ r. ⌜ r ≡ concerns premise (reading (take recordLength (drop at (now (tape .entry))))) ⌝ }
+    ensures { λ r. ⌜ r ≡ concerns premise (reading (recordAt (now (tape .entry)) at)) ⌝ }
 {
     if tape[at] == record_kind::DAY_MARK {
         return is_formed(tape, at);
@@ -43,7 +43,7 @@ pub fn concerns_at(tape: &[u8], at: usize, premise: u64) -> bool
 // The premise that it names, if that lies above the last one and is nearer than the nearest so far; else the nearest so far.
 pub fn nearer_at(tape: &[u8], at: usize, last: u64, nearest: u64) -> u64
     requires { ⌜ at + recordLength ≤ length (now tape) ⌝ }
-    ensures { λ r. ⌜ r ≡ nearer last nearest (reading (take recordLength (drop at (now (tape .entry))))) ⌝ }
+    ensures { λ r. ⌜ r ≡ nearer last nearest (reading (recordAt (now (tape .entry)) at)) ⌝ }
 {
     let premise = eight(tape, at + field_at::PREMISE);
     if premise <= last {
@@ -64,7 +64,7 @@ pub fn nearer_at(tape: &[u8], at: usize, last: u64, nearest: u64) -> u64
 // Whether two records have the same 24 bytes, by three numbers.
 pub fn same_record(ours: &[u8], here: usize, theirs: &[u8], there: usize) -> bool
     requires { ⌜ (here + recordLength ≤ length (now ours)) × (there + recordLength ≤ length (now theirs)) ⌝ }
-    ensures { λ r. ⌜ r ≡ sameBytes (take recordLength (drop here (now (ours .entry)))) (take recordLength (drop there (now (theirs .entry)))) ⌝ }
+    ensures { λ r. ⌜ r ≡ sameBytes (recordAt (now (ours .entry)) here) (recordAt (now (theirs .entry)) there) ⌝ }
 {
     if eight(ours, here) != eight(theirs, there) {
         return false;

@@ -1,7 +1,7 @@
 // The premises that tapes name, in rising order: each time the smallest above the last one.
 ghost use mathlib.Core.Path.{_≡_};
 ghost use Rattle.agreement_rules.specs.Agreement.{recordsIn};
-ghost use Rattle.tape_agreement.specs.Walks.{nearest};
+ghost use Rattle.tape_agreement.specs.Walks.{nearest, nextNamed};
 use crate::places;
 use records::RECORD_LENGTH;
 
@@ -23,7 +23,7 @@ pub fn next_below(tape: &[u8], last: u64, limit: u64) -> u64
 
 // The smallest premise above the last one that either tape names; the largest there is where neither names one.
 pub fn next_premise(ours: &[u8], theirs: &[u8], last: u64) -> u64
-    ensures { λ r. ⌜ r ≡ nearest last (nearest last 18446744073709551615 (recordsIn (now (ours .entry)))) (recordsIn (now (theirs .entry))) ⌝ }
+    ensures { λ r. ⌜ r ≡ nextNamed last (recordsIn (now (ours .entry))) (recordsIn (now (theirs .entry))) ⌝ }
 {
     next_below(theirs, last, next_below(ours, last, LAST_PREMISE))
 }

@@ -7,8 +7,8 @@ use borrow.Author.Tests.{not-true, not-false}
 use native.Mathlib.Omega.{arith}
 use Rattle.records.proofs.Fields.{bytes-each}
 use Rattle.agreement_rules.specs.declared.Agreement.the-variants.{Differ}
-use Rattle.agreement_rules.specs.Agreement.{Compared}
-use Rattle.tape_agreement.proofs.UpTo.{lastPremise, UpTo, sameAt, none-asked, marks-differ, next-above, next-differs, next-agrees}
+use Rattle.tape_agreement.specs.Walks.{lastPremise}
+use Rattle.tape_agreement.proofs.UpTo.{UpTo, sameAt, none-asked, marks-differ, next-above, next-differs, next-agrees}
 use Rattle.tape_agreement.proofs.UpTo.{all-agree}
 use Rattle.tape_agreement.proofs.agreeing.compare.Statement.{statement}
 use Rattle.tape_agreement.proofs.agreeing.compare.Tie as tie

@@ -43,7 +43,8 @@ loop-again c =
     let l = w .before .before in
     let a = l .before .before .args in
     let within = l .loop .inv .within in
-    passed (a .premise) (a .tape .now) (a .from) (l .loop .at) (l .loop .inv) (omega (arith, within)) (sym (w .concerns-at .ensures) ∙ c .if1 .left)
+    passed (a .premise) (a .tape .now) (a .from) (l .loop .at) (l .loop .inv) (omega (arith, within))
+    (sym (w .concerns-at .ensures) ∙ c .if1 .left)
 
 returns-2 : tie.Need-returns-2 Inv-loop μ-loop
 returns-2 c =

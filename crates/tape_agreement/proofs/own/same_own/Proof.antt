@@ -1,5 +1,5 @@
--- `tape_agreement::own::same_own` meets its contract. The loop's invariant: the wholes are the same exactly if the rests are. The measure is
--- the bytes left of our tape. Assumes nothing.
+-- `tape_agreement::own::same_own` meets its contract. The loop's invariant: the wholes are the same exactly if the rests are. The measure
+-- is the bytes left of our tape. Assumes nothing.
 use Prim.Native.Nat.{_-_}
 use mathlib.Core.Path.{refl, sym, _∙_}
 use borrow.Author.Needs.{needs}

@@ -2,7 +2,7 @@
 use mathlib.Core.Path.{sym, _∙_}
 use borrow.Author.Needs.{needs}
 use native.Mathlib.Omega.{arith}
-use Rattle.tape_agreement.proofs.Cursors.{recordAt}
+use Rattle.tape_agreement.specs.Walks.{recordAt}
 use Rattle.tape_agreement.proofs.Readings.{kind-at, premise-at, concerns-mark, concerns-own, concerns-no-other}
 use Rattle.tape_agreement.proofs.places.concerns_at.Statement.{statement}
 use Rattle.tape_agreement.proofs.places.concerns_at.Tie as tie

@@ -2,7 +2,7 @@
 use mathlib.Core.Path.{sym, _∙_}
 use borrow.Author.Needs.{needs}
 use native.Mathlib.Omega.{arith}
-use Rattle.tape_agreement.proofs.Cursors.{recordAt}
+use Rattle.tape_agreement.specs.Walks.{recordAt}
 use Rattle.tape_agreement.proofs.Readings.{kind-at, premise-at, nearer-below, nearer-beyond, nearer-mark, nearer-malformed}
 use Rattle.tape_agreement.proofs.Readings.{nearer-named}
 use Rattle.tape_agreement.proofs.places.nearer_at.Statement.{statement}
@@ -56,7 +56,8 @@ returns-4 c =
     let low = h .before .if1 .left in
     let high = h .if2 .left in
     read ∙ sym is
-    ∙ sym (nearer-named (recordAt (a .tape .now) (a .at)) (a .last) (a .nearest) (omega (arith, is, read, low)) (omega (arith, is, read, high))
+    ∙ sym (nearer-named (recordAt (a .tape .now) (a .at)) (a .last) (a .nearest) (omega (arith, is, read, low))
+    (omega (arith, is, read, high))
     (λ mark. k .if3 .left (sym (kind-at (a .tape .now) (a .at) (omega arith)) ∙ mark))
     (sym (f .is-formed .ensures) ∙ c .if4 .taken))
 

@@ -5,6 +5,7 @@
 
 #![forbid(unsafe_code)]
 
+pub mod agreement;
 pub mod book;
 pub mod evaluation;
 pub mod tapes;

@@ -163,3 +163,15 @@ fn they_say_what_is_wrong_with_their_arguments() {
         assert!(text(program, "--help").contains("usage: "));
     }
 }
+
+#[test]
+fn the_search_says_what_the_maps_say() {
+    for seed in 0..120 {
+        let pair = agreement::pair::pair(seed, 200);
+        assert_eq!(
+            bench::agreement::compare(&pair.ours, &pair.theirs),
+            agreement::compare(&pair.ours, &pair.theirs),
+            "seed {seed}"
+        );
+    }
+}

@@ -1,5 +1,5 @@
--- The room for a tape: the longest that the program takes, and one byte more, which shows that a tape is too long; and the room that is tried
--- first.
+-- The room for a tape: the longest that the program takes, and one byte more, which shows that a tape is too long; and the room that is
+-- tried first.
 use Prim.Native.Nat.{ℕ}
 
 abbrev pub roomForTape : ℕ

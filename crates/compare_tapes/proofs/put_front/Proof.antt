@@ -1,5 +1,5 @@
--- `compare_tapes::put_front` meets its contract. The loop's invariant: the first bytes are put, and the rest is as it was. The measure is the
--- bytes left. Assumes nothing.
+-- `compare_tapes::put_front` meets its contract. The loop's invariant: the first bytes are put, and the rest is as it was. The measure
+-- is the bytes left. Assumes nothing.
 use Prim.Native.Nat.{_-_}
 use borrow.Author.Needs.{needs}
 use native.Mathlib.Omega.{arith}

@@ -1,0 +1,4 @@
+pub mod Cases
+pub mod Sums
+pub mod Spare
+pub mod Samples

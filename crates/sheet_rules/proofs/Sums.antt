@@ -13,7 +13,7 @@ use Rattle.book.specs.Book.{filesOf}
 use Rattle.sheet_rules.specs.declared.BlockRow.{BlockRow}
 use Rattle.sheet_rules.specs.declared.SheetAnswer.{SheetAnswer}
 use Rattle.sheet_rules.specs.declared.SheetAnswer.the-variants.{Filled, NotWellKept, UnsoundRow}
-use Rattle.sheet_rules.specs.Sheet.{number, isDark, any, passesIn, tallyOf, counted, sheetAnswer, rowsAfter, Fills}
+use Rattle.sheet_rules.specs.Sheet.{number, isDark, any, passesIn, tallyOf, counted, sheetAnswer, rowsAfter}
 use Rattle.sheet_rules.specs.Theorems.{sumOf, spans, Apart, Covers, SumsOf, SumsAreTheBooks, SameBlocks, KeepsBlocks}
 
 -- ---- sums

@@ -117,14 +117,19 @@ pub fn print(text: &str) -> Result<(), String> {
 /// Plays the tape on standard input with `calendar.bin` of the current folder.
 pub fn play_standard_input(call: RecordCall) -> Result<(), String> {
     let calendar = read_calendar()?;
-    let tape = read_up_to(io::stdin().lock(), TAPE_BYTES).map_err(|error| {
-        format!("cannot read the tape from standard input: {error}; give a readable file or pipe")
-    })?;
+    let tape = read_tape()?;
     write_out(|out| play_by(call, &calendar, &tape, out))
 }
 
+/// The tape on standard input, as far as it is played.
+pub fn read_tape() -> Result<Vec<u8>, String> {
+    read_up_to(io::stdin().lock(), TAPE_BYTES).map_err(|error| {
+        format!("cannot read the tape from standard input: {error}; give a readable file or pipe")
+    })
+}
+
 /// The calendar; an absent file counts as empty, an unreadable one is an error.
-fn read_calendar() -> Result<Vec<u8>, String> {
+pub fn read_calendar() -> Result<Vec<u8>, String> {
     match File::open(CALENDAR).and_then(|file| read_up_to(file, CALENDAR_BYTES)) {
         Err(error) if error.kind() == ErrorKind::NotFound => Ok(Vec::new()),
         read => read.map_err(|error| {

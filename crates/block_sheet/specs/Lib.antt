@@ -1,0 +1,4 @@
+pub mod Played
+pub mod RowBytes
+pub mod Lines
+pub mod Output

@@ -11,7 +11,7 @@ ghost use mathlib.Core.List.{_++_};
 ghost use Prim.Native.Nat.{_+_, _≤_};
 ghost use lib.ListN.{length, drop};
 ghost use Rattle.compare_tapes.specs.Sizes.{roomForTape, shortRoom};
-use agreement_rules::Agreement;
+use tape_agreement_rules::Agreement;
 use tape_io::Got;
 
 // The longest tape that is taken: 43,690 records.

@@ -14,8 +14,8 @@ use Rattle.records.specs.Records.{reading}
 use Rattle.records.proofs.Readings.{reading-length}
 use Rattle.demands.specs.Demand3.{concerns}
 use Rattle.demands.specs.Tapes.{ownOf}
-use Rattle.agreement_rules.specs.Agreement.{recordsIn, sameBytes, sameRecords}
-use Rattle.agreement_rules.proofs.Cuts.{cut-at}
+use Rattle.tape_agreement_rules.specs.Agreement.{recordsIn, sameBytes, sameRecords}
+use Rattle.tape_agreement_rules.proofs.Cuts.{cut-at}
 use Rattle.tape_agreement.specs.Walks.{recordAt, Reaches}
 
 -- fewer than 24 bytes are no record, or one that is malformed

@@ -14,8 +14,8 @@ use Rattle.records.specs.declared.Reading.the-variants.{Malformed, Says}
 use Rattle.records.specs.Layout.{recordLength}
 use Rattle.records.specs.Records.{reading, kindDayMark}
 use Rattle.premise.specs.Steps.{is}
-use Rattle.agreement_rules.specs.Agreement.{recordsIn, named, premisesOf}
-use Rattle.agreement_rules.proofs.Cuts.{cut-at}
+use Rattle.tape_agreement_rules.specs.Agreement.{recordsIn, named, premisesOf}
+use Rattle.tape_agreement_rules.proofs.Cuts.{cut-at}
 use Rattle.tape_agreement.specs.Walks.{recordAt, nearer, nearest}
 use Rattle.tape_agreement.proofs.Cursors.{short-cut}
 

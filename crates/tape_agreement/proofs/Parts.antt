@@ -11,8 +11,8 @@ use borrow.Author.Tests.{eqb-true, eqb-false}
 use Rattle.records.specs.Layout.{Bytes, recordLength, number, fieldOf}
 use Rattle.records.proofs.Decode.{field-at}
 use Rattle.records.proofs.Fields.{bytes-drop, bytes-take, number-decides}
-use Rattle.agreement_rules.specs.Agreement.{sameBytes}
-use Rattle.agreement_rules.proofs.Lists.{bytes-same, bytes-self}
+use Rattle.tape_agreement_rules.specs.Agreement.{sameBytes}
+use Rattle.tape_agreement_rules.proofs.Lists.{bytes-same, bytes-self}
 use Rattle.tape_agreement.specs.Walks.{recordAt}
 
 -- ---- lists of 24

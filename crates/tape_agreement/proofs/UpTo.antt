@@ -11,13 +11,13 @@ use Rattle.lists.proofs.SearchLaws.{each-map}
 use Rattle.records.specs.Layout.{Bytes}
 use Rattle.demands.specs.Demand3.{Premise}
 use Rattle.demands.specs.Tapes.{ownOf}
-use Rattle.agreement_rules.specs.declared.Agreement.the-variants.{Same, MarksDiffer, Differ}
-use Rattle.agreement_rules.specs.Agreement.{recordsIn, marksOf, premisesOf, sameRecords, Compared}
-use Rattle.agreement_rules.specs.Theorems.{AgreeAt, MarksAgree}
-use Rattle.agreement_rules.proofs.Lists.{records-same, records-differ}
-use Rattle.agreement_rules.proofs.Own.{own-unnamed, marks-too, named-ranged, by-names}
-use Rattle.agreement_rules.proofs.Cuts.{cut-bytes}
-use Rattle.agreement_rules.proofs.Answers.{is-promised}
+use Rattle.tape_agreement_rules.specs.declared.Agreement.the-variants.{Same, MarksDiffer, Differ}
+use Rattle.tape_agreement_rules.specs.Agreement.{recordsIn, marksOf, premisesOf, sameRecords, Compared}
+use Rattle.tape_agreement_rules.specs.Theorems.{AgreeAt, MarksAgree}
+use Rattle.tape_agreement_rules.proofs.Lists.{records-same, records-differ}
+use Rattle.tape_agreement_rules.proofs.Own.{own-unnamed, marks-too, named-ranged, by-names}
+use Rattle.tape_agreement_rules.proofs.Cuts.{cut-bytes}
+use Rattle.tape_agreement_rules.proofs.Answers.{is-promised}
 use Rattle.tape_agreement.specs.Walks.{lastPremise, nextNamed}
 use Rattle.tape_agreement.proofs.Nearest.{Next, next-is}
 

@@ -12,7 +12,7 @@ use Rattle.records.specs.Records.{reading, kindDayMark}
 use Rattle.premise.specs.Steps.{is}
 use Rattle.demands.specs.Demand3.{concerns}
 use Rattle.demands.specs.Tapes.{ownOf}
-use Rattle.agreement_rules.specs.Agreement.{recordsIn}
+use Rattle.tape_agreement_rules.specs.Agreement.{recordsIn}
 
 -- the 24 bytes from a place on
 abbrev pub recordAt : List ℕ → ℕ → List ℕ

@@ -1,8 +1,8 @@
 // Comparing two tapes: first the day marks, then premise after premise. Every premise up to the last one asked agrees.
-ghost use Rattle.agreement_rules.specs.Agreement.{Compared};
+ghost use Rattle.tape_agreement_rules.specs.Agreement.{Compared};
 use crate::own;
 use crate::premises;
-use agreement_rules::Agreement;
+use tape_agreement_rules::Agreement;
 
 // No well-formed record but a day mark has premise 0, so that what concerns it are the marks by themselves.
 const NO_PREMISE: u64 = 0;

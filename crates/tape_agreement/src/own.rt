@@ -3,7 +3,7 @@ ghost use mathlib.Core.Path.{_≡_};
 ghost use Prim.Native.Nat.{_≤_};
 ghost use lib.ListN.{length};
 ghost use Rattle.demands.specs.Tapes.{ownOf};
-ghost use Rattle.agreement_rules.specs.Agreement.{recordsIn, sameRecords};
+ghost use Rattle.tape_agreement_rules.specs.Agreement.{recordsIn, sameRecords};
 ghost use Rattle.tape_agreement.specs.Walks.{Reaches};
 use crate::places;
 use records::RECORD_LENGTH;

@@ -5,7 +5,7 @@ ghost use lib.ListN.{length};
 ghost use Rattle.records.specs.Layout.{recordLength};
 ghost use Rattle.records.specs.Records.{reading};
 ghost use Rattle.demands.specs.Demand3.{concerns};
-ghost use Rattle.agreement_rules.specs.Agreement.{sameBytes};
+ghost use Rattle.tape_agreement_rules.specs.Agreement.{sameBytes};
 ghost use Rattle.tape_agreement.specs.Walks.{recordAt, isSaid, nearer};
 use record_bytes::eight;
 use record_bytes::read_record;

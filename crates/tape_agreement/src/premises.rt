@@ -1,6 +1,6 @@
 // The premises that tapes name, in rising order: each time the smallest above the last one.
 ghost use mathlib.Core.Path.{_≡_};
-ghost use Rattle.agreement_rules.specs.Agreement.{recordsIn};
+ghost use Rattle.tape_agreement_rules.specs.Agreement.{recordsIn};
 ghost use Rattle.tape_agreement.specs.Walks.{nearest, nextNamed};
 use crate::places;
 use records::RECORD_LENGTH;

@@ -6,7 +6,7 @@ use borrow.Author.Needs.{needs}
 use borrow.Author.Tests.{not-true, not-false}
 use native.Mathlib.Omega.{arith}
 use Rattle.records.proofs.Fields.{bytes-each}
-use Rattle.agreement_rules.specs.declared.Agreement.the-variants.{Differ}
+use Rattle.tape_agreement_rules.specs.declared.Agreement.the-variants.{Differ}
 use Rattle.tape_agreement.specs.Walks.{lastPremise}
 use Rattle.tape_agreement.proofs.UpTo.{UpTo, sameAt, none-asked, marks-differ, next-above, next-differs, next-agrees}
 use Rattle.tape_agreement.proofs.UpTo.{all-agree}

@@ -5,7 +5,7 @@ use mathlib.Core.Path.{_≡_, refl, ap, sym, _∙_}
 use borrow.Author.Needs.{needs}
 use native.Mathlib.Omega.{arith}
 use lib.ListN.{length, drop}
-use Rattle.agreement_rules.specs.Agreement.{recordsIn}
+use Rattle.tape_agreement_rules.specs.Agreement.{recordsIn}
 use Rattle.tape_agreement.specs.Walks.{nearest}
 use Rattle.tape_agreement.proofs.Nearest.{nearest-next, nearest-end}
 use Rattle.tape_agreement.proofs.premises.next_below.Statement.{statement}

@@ -1,7 +1,7 @@
 -- `tape_agreement::premises::next_premise` meets its contract: what our tape names is the limit for theirs. Assumes nothing.
 use mathlib.Core.Path.{ap, _∙_}
 use borrow.Author.Needs.{needs}
-use Rattle.agreement_rules.specs.Agreement.{recordsIn}
+use Rattle.tape_agreement_rules.specs.Agreement.{recordsIn}
 use Rattle.tape_agreement.specs.Walks.{nearest}
 use Rattle.tape_agreement.proofs.premises.next_premise.Statement.{statement}
 use Rattle.tape_agreement.proofs.premises.next_premise.Tie as tie

@@ -12,8 +12,8 @@ use Rattle.book.specs.Book.{filesOf, freshBook}
 use Rattle.demands.specs.Demand3.{Made, lastBook, SameBooks}
 use Rattle.demands.specs.Sample.{plays, create7, create5, order7, order5, scheduled7, scheduled5, mark1, malformed, calendar}
 use Rattle.demands.specs.LastDay.{plain}
-use Rattle.agreement_rules.specs.declared.Agreement.the-variants.{Same}
-use Rattle.agreement_rules.specs.Agreement.{saysYes, numberGiven, agreement, Compared}
+use Rattle.tape_agreement_rules.specs.declared.Agreement.the-variants.{Same}
+use Rattle.tape_agreement_rules.specs.Agreement.{saysYes, numberGiven, agreement, Compared}
 
 -- a tape of some records
 abbrev pub joined : List (List ℕ) → List ℕ

@@ -10,7 +10,7 @@ use borrow.Author.Tests.{eqb-true, eqb-false, eq-eqb, leb-true, leb-false}
 use Rattle.lists.specs.Search.{anyOf, Each}
 use Rattle.lists.proofs.TestLaws.{and-left, and-right, or-left, or-right, or-either}
 use Rattle.lists.proofs.SearchLaws.{each-map}
-use Rattle.agreement_rules.specs.Agreement.{sameBy, sameBytes, sameRecords, smaller, smallestOf}
+use Rattle.tape_agreement_rules.specs.Agreement.{sameBy, sameBytes, sameRecords, smaller, smallestOf}
 
 -- ---- the same by a test
 module _ {A : Type 0} (same : A → A → Bool) where

@@ -21,11 +21,11 @@ use Rattle.book.proofs.Row6.{answered-full}
 use Rattle.demands.specs.Demand3.{Made, Played, AllAllowed, SameBooks}
 use Rattle.demands.specs.Sample.{lent, made, plays, create7, create5, order7, order5, scheduled7, scheduled5, mark1, malformed, calendar}
 use Rattle.demands.proofs.ByDefinition.{byteTest, are-bytes, Short, by-definition, rooms}
-use Rattle.agreement_rules.specs.declared.Agreement.the-variants.{Same}
-use Rattle.agreement_rules.specs.Agreement.{saysYes, numberGiven, recordsIn, agreement, Compared}
-use Rattle.agreement_rules.specs.Theorems.{TapeCalls}
-use Rattle.agreement_rules.specs.Samples.{joined, sample, shuffled, allHold, called, Comes}
-use Rattle.agreement_rules.proofs.Books.{yes-means-equal-books}
+use Rattle.tape_agreement_rules.specs.declared.Agreement.the-variants.{Same}
+use Rattle.tape_agreement_rules.specs.Agreement.{saysYes, numberGiven, recordsIn, agreement, Compared}
+use Rattle.tape_agreement_rules.specs.Theorems.{TapeCalls}
+use Rattle.tape_agreement_rules.specs.Samples.{joined, sample, shuffled, allHold, called, Comes}
+use Rattle.tape_agreement_rules.proofs.Books.{yes-means-equal-books}
 
 pub samples : allHold ≡ true
 unfolding fieldOf wellFormed reading create7 create5 order7 order5 scheduled7 scheduled5 mark1 malformed saysYes numberGiven agreement

@@ -14,15 +14,15 @@ use Rattle.lists.proofs.SearchLaws.{each-map, each-append}
 use Rattle.records.specs.Layout.{Bytes}
 use Rattle.demands.specs.Demand3.{Premise}
 use Rattle.demands.specs.Tapes.{ownOf}
-use Rattle.agreement_rules.specs.declared.Agreement.{Agreement}
-use Rattle.agreement_rules.specs.declared.Agreement.the-variants.{Same, MarksDiffer, Differ}
-use Rattle.agreement_rules.specs.Agreement.{saysYes, numberGiven, recordsIn, marksOf, premisesOf, sameRecords, differAt}
-use Rattle.agreement_rules.specs.Agreement.{smallestOf, answerOf, agreementOf, agreement, Compared}
-use Rattle.agreement_rules.specs.Theorems.{AgreeAt, MarksAgree, YesExactly, YesIncludesMarks, SaysNo, NoGivesZero, SmallestDiffers}
-use Rattle.agreement_rules.specs.Theorems.{NoGivesPremise}
-use Rattle.agreement_rules.proofs.Cuts.{cut-bytes}
-use Rattle.agreement_rules.proofs.Lists.{records-same, records-differ, of-each, SmallestIs, Smallest, smallest}
-use Rattle.agreement_rules.proofs.Own.{marks-too, named-ranged, agree-of, differ-of, by-names}
+use Rattle.tape_agreement_rules.specs.declared.Agreement.{Agreement}
+use Rattle.tape_agreement_rules.specs.declared.Agreement.the-variants.{Same, MarksDiffer, Differ}
+use Rattle.tape_agreement_rules.specs.Agreement.{saysYes, numberGiven, recordsIn, marksOf, premisesOf, sameRecords, differAt}
+use Rattle.tape_agreement_rules.specs.Agreement.{smallestOf, answerOf, agreementOf, agreement, Compared}
+use Rattle.tape_agreement_rules.specs.Theorems.{AgreeAt, MarksAgree, YesExactly, YesIncludesMarks, SaysNo, NoGivesZero, SmallestDiffers}
+use Rattle.tape_agreement_rules.specs.Theorems.{NoGivesPremise}
+use Rattle.tape_agreement_rules.proofs.Cuts.{cut-bytes}
+use Rattle.tape_agreement_rules.proofs.Lists.{records-same, records-differ, of-each, SmallestIs, Smallest, smallest}
+use Rattle.tape_agreement_rules.proofs.Own.{marks-too, named-ranged, agree-of, differ-of, by-names}
 
 -- what each answer tells of two tapes
 abbrev pub Tells : List ℕ → List ℕ → Agreement → Type 0

@@ -12,8 +12,8 @@ use Rattle.book.specs.Book.{freshBook}
 use Rattle.book.specs.Calls.{noticeBytes}
 use Rattle.demands.specs.Demand3.{Made, Played, Premise, SameBooks}
 use Rattle.demands.specs.Tapes.{tapeOf, ownOf}
-use Rattle.agreement_rules.specs.declared.Agreement.{Agreement}
-use Rattle.agreement_rules.specs.Agreement.{saysYes, numberGiven, recordsIn, marksOf, Compared}
+use Rattle.tape_agreement_rules.specs.declared.Agreement.{Agreement}
+use Rattle.tape_agreement_rules.specs.Agreement.{saysYes, numberGiven, recordsIn, marksOf, Compared}
 
 -- At a premise, named or not: its own records and the day marks, in the same order and with the same bytes.
 abbrev pub AgreeAt : List ℕ → List ℕ → ℕ → Type 0

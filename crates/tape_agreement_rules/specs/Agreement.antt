@@ -12,8 +12,8 @@ use Rattle.records.specs.Records.{reading, kindDayMark}
 use Rattle.premise.specs.Steps.{is}
 use Rattle.book.specs.CallsInRow.{recordsOf}
 use Rattle.demands.specs.Tapes.{ownOf}
-use Rattle.agreement_rules.specs.declared.Agreement.{Agreement}
-use Rattle.agreement_rules.specs.declared.Agreement.the-variants.{Same, MarksDiffer, Differ}
+use Rattle.tape_agreement_rules.specs.declared.Agreement.{Agreement}
+use Rattle.tape_agreement_rules.specs.declared.Agreement.the-variants.{Same, MarksDiffer, Differ}
 
 -- ---- what document 02 has of each answer
 -- "The tool says yes" ..

@@ -10,8 +10,8 @@ use Rattle.records.specs.Layout.{Bytes, recordLength}
 use Rattle.records.proofs.Fields.{bytes-drop, bytes-take}
 use Rattle.book.specs.CallsInRow.{recordsOf}
 use Rattle.book.proofs.CallsInRow.{records-next, records-none}
-use Rattle.agreement_rules.specs.Agreement.{recordsIn}
-use Rattle.agreement_rules.specs.Samples.{joined}
+use Rattle.tape_agreement_rules.specs.Agreement.{recordsIn}
+use Rattle.tape_agreement_rules.specs.Samples.{joined}
 
 -- any limit that is no less than a tape's length is as good
 enough : (most more : ℕ) (tape : List ℕ) → length tape ≤ most → length tape ≤ more → recordsOf most tape ≡ recordsOf more tape

@@ -15,8 +15,8 @@ use Rattle.premise.specs.Steps.{is}
 use Rattle.demands.specs.Demand3.{Premise, concerns}
 use Rattle.demands.specs.Tapes.{ownOf}
 use Rattle.demands.proofs.OnWay.{SoundIn, sound}
-use Rattle.agreement_rules.specs.Agreement.{isMark, marksOf, named, premisesOf, sameRecords, differAt}
-use Rattle.agreement_rules.proofs.Lists.{records-same, records-differ, each-left, each-right, among, of-each, none-is}
+use Rattle.tape_agreement_rules.specs.Agreement.{isMark, marksOf, named, premisesOf, sameRecords, differAt}
+use Rattle.tape_agreement_rules.proofs.Lists.{records-same, records-differ, each-left, each-right, among, of-each, none-is}
 
 -- ---- a premise that is not named has the day marks alone
 abbrev Other : ℕ → ℕ → Type 0

@@ -19,10 +19,10 @@ use Rattle.demands.specs.Demand3.{Made, Played, AllAllowed}
 use Rattle.demands.specs.Tapes.{tapeOf, ownOf}
 use Rattle.demands.proofs.Demand3.{demand-3}
 use Rattle.demands.proofs.Tapes.{own-of-made}
-use Rattle.agreement_rules.specs.Agreement.{recordsIn}
-use Rattle.agreement_rules.specs.Theorems.{TapeCalls, YesMeansEqualBooks}
-use Rattle.agreement_rules.proofs.Cuts.{cut-bytes}
-use Rattle.agreement_rules.proofs.Answers.{yes-exactly}
+use Rattle.tape_agreement_rules.specs.Agreement.{recordsIn}
+use Rattle.tape_agreement_rules.specs.Theorems.{TapeCalls, YesMeansEqualBooks}
+use Rattle.tape_agreement_rules.proofs.Cuts.{cut-bytes}
+use Rattle.tape_agreement_rules.proofs.Answers.{yes-exactly}
 
 -- calls on records that are bytes, with long enough buffers, none of them answered 6
 record Given (ms : List Made) : Type 0 where

@@ -14,7 +14,6 @@ use Rattle.days.specs.Window.{windowWidth, LastInWindow}
 use Rattle.records.specs.declared.Notice.{Notice}
 use Rattle.premise.specs.declared.File.{File}
 use Rattle.premise.specs.declared.FileAfter.{FileAfter}
-use Rattle.premise.specs.Orders.{held}
 use Rattle.premise.specs.OnePremise.{marked}
 use Rattle.premise.specs.WellKept.{Tidy}
 use Rattle.premise.specs.Promises.{Room, Writes, DoneToFile}

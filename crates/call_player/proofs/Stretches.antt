@@ -1,10 +1,9 @@
 -- A stretch that is played by record calls is played as by the one loop over its records. Assumes nothing.
-use Prim.Native.Nat.{ℕ, _*_, _-_, _≤_, min}
-use mathlib.Core.Path.{_≡_, ap, subst}
+use Prim.Native.Nat.{ℕ, _-_, _≤_, min}
+use mathlib.Core.Path.{_≡_, subst}
 use mathlib.Core.List.{List}
 use native.Mathlib.Omega.{arith}
-use lib.ListN.{length, take, drop}
-use Rattle.records.specs.Layout.{recordLength}
+use lib.ListN.{length}
 use Rattle.book.specs.declared.Playback.{Playback}
 use Rattle.book.specs.CallsInRow.{recordsOf, callsInRow, Plays}
 use Rattle.demands.specs.Demand3.{Made}

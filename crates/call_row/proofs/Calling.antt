@@ -7,8 +7,6 @@ use native.Mathlib.Omega.{arith}
 use lib.ListN.{length, take, drop, set, length-append, length-map, length-take, length-drop, take-append-drop, drop-of-length-le}
 use lib.Seq.{take-all, take-at, drop-at, drop-drop}
 use Rattle.records.specs.Layout.{recordLength}
-use Rattle.records.specs.Notices.{encodeAll}
-use Rattle.records.proofs.Notices.{length-encodeAll}
 use Rattle.records.proofs.Emits.{emits-rest, emits-length}
 use Rattle.premise.specs.declared.Answer.{Answer}
 use Rattle.premise.specs.declared.Answer.the-variants.{Accepted}

@@ -10,7 +10,7 @@ ghost use mathlib.Core.Path.{_≡_};
 ghost use mathlib.Core.List.{_++_};
 ghost use Prim.Native.Nat.{_+_, _≤_};
 ghost use lib.ListN.{length, drop};
-ghost use Rattle.compare_tapes.specs.Sizes.{roomForTape, shortRoom};
+ghost use Rattle.compare_tapes.specs.Sizes.{roomForTape};
 use tape_agreement_rules::Agreement;
 use tape_io::Got;
 

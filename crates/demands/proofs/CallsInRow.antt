@@ -2,20 +2,18 @@
 use Prim.Native.Nat.{ℕ, zero, suc, _*_, _≤_}
 use mathlib.Core.Path.{_≡_, refl, sym, ap, ap₂, subst⁻¹, _∙_}
 use mathlib.Core.List.{List, [], _∷_, _++_, map, map-append}
-use mathlib.Core.Bool.{true}
 use lib.ListN.{length, take, drop, replicate}
 use Rattle.lists.specs.Search.{Each}
-use Rattle.records.specs.declared.Notice.{Notice}
 use Rattle.records.specs.Layout.{recordLength}
 use Rattle.records.specs.Notices.{encode, encodeAll, Emits, rows}
 use Rattle.records.proofs.Emits.{emits-rows}
 use Rattle.premise.specs.Refusals.{number}
 use Rattle.book.specs.declared.Book.{Book}
-use Rattle.book.specs.Calls.{noticeBytes, Result}
-use Rattle.book.specs.CallsInRow.{called, Course, stopped, andThen, callsInRow, answersOf, countsOf, noticesOf, Noted}
+use Rattle.book.specs.Calls.{noticeBytes}
+use Rattle.book.specs.CallsInRow.{called, Course, callsInRow, answersOf, countsOf, noticesOf, Noted}
 use Rattle.book.proofs.CallsInRow.{called-room, by-row}
 use Rattle.demands.specs.Demand3.{Made, Played, lastBook}
-use Rattle.demands.specs.CallsInRow.{noticeRows, Tells, RowIsCalls, CoursesCanBePlayed}
+use Rattle.demands.specs.CallsInRow.{noticeRows, RowIsCalls, CoursesCanBePlayed}
 
 -- ---- a single call
 abbrev single : List ℕ → Book → List ℕ → Made

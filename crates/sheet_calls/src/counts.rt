@@ -1,6 +1,6 @@
 // The two counts of a range.
 ghost use mathlib.Core.Path.{_≡_};
-ghost use mathlib.Core.Bool.{cond, _&&_};
+ghost use mathlib.Core.Bool.{cond};
 ghost use lib.Dec.{eqb};
 ghost use Prim.Native.Nat.{min};
 ghost use Rattle.premise.specs.Orders.{noRetailer};

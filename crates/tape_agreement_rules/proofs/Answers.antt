@@ -2,7 +2,6 @@
 -- Assumes nothing.
 use Prim.Native.Nat.{ℕ, _<_, _≤_}
 use mathlib.Core.Path.{_≡_, refl, ap, sym, subst, _∙_}
-use mathlib.Core.Logic.{_↔_}
 use mathlib.Core.List.{List, _++_}
 use mathlib.Core.Option.{Option, none, some}
 use mathlib.Core.Bool.{Bool, true, false, cond, false≢true}
@@ -17,11 +16,11 @@ use Rattle.demands.specs.Tapes.{ownOf}
 use Rattle.tape_agreement_rules.specs.declared.Agreement.{Agreement}
 use Rattle.tape_agreement_rules.specs.declared.Agreement.the-variants.{Same, MarksDiffer, Differ}
 use Rattle.tape_agreement_rules.specs.Agreement.{saysYes, numberGiven, recordsIn, marksOf, premisesOf, sameRecords, differAt}
-use Rattle.tape_agreement_rules.specs.Agreement.{smallestOf, answerOf, agreementOf, agreement, Compared}
+use Rattle.tape_agreement_rules.specs.Agreement.{smallestOf, answerOf, agreement, Compared}
 use Rattle.tape_agreement_rules.specs.Theorems.{AgreeAt, MarksAgree, YesExactly, YesIncludesMarks, SaysNo, NoGivesZero, SmallestDiffers}
 use Rattle.tape_agreement_rules.specs.Theorems.{NoGivesPremise}
 use Rattle.tape_agreement_rules.proofs.Cuts.{cut-bytes}
-use Rattle.tape_agreement_rules.proofs.Lists.{records-same, records-differ, of-each, SmallestIs, Smallest, smallest}
+use Rattle.tape_agreement_rules.proofs.Lists.{records-same, records-differ, of-each, Smallest, smallest}
 use Rattle.tape_agreement_rules.proofs.Own.{marks-too, named-ranged, agree-of, differ-of, by-names}
 
 -- what each answer tells of two tapes

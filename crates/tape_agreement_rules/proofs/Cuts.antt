@@ -1,17 +1,16 @@
 -- A tape cut into its records, from a place on: one and the others, or none that is well formed. Assumes nothing.
-use Prim.Native.Nat.{ℕ, zero, suc, _+_, _*_, _-_, _<_, _≤_}
-use mathlib.Core.Path.{_≡_, refl, ap, sym, _∙_}
-use mathlib.Core.List.{List, [], _∷_, _++_}
+use Prim.Native.Nat.{ℕ, zero, suc, _+_, _-_, _<_, _≤_}
+use mathlib.Core.Path.{_≡_, ap, sym, _∙_}
+use mathlib.Core.List.{List, [], _∷_}
 use native.Mathlib.Omega.{arith}
-use lib.ListN.{length, take, drop, length-drop, length-take, length-append}
-use lib.Seq.{drop-drop, take-at, drop-at}
+use lib.ListN.{length, take, drop, length-drop}
+use lib.Seq.{drop-drop}
 use Rattle.lists.specs.Search.{Each}
 use Rattle.records.specs.Layout.{Bytes, recordLength}
 use Rattle.records.proofs.Fields.{bytes-drop, bytes-take}
 use Rattle.book.specs.CallsInRow.{recordsOf}
 use Rattle.book.proofs.CallsInRow.{records-next, records-none}
 use Rattle.tape_agreement_rules.specs.Agreement.{recordsIn}
-use Rattle.tape_agreement_rules.specs.Samples.{joined}
 
 -- any limit that is no less than a tape's length is as good
 enough : (most more : ℕ) (tape : List ℕ) → length tape ≤ most → length tape ≤ more → recordsOf most tape ≡ recordsOf more tape

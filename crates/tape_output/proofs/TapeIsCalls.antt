@@ -1,14 +1,13 @@
 -- What the tape program prints is what record calls gave, one for each record of the tape. Assumes nothing.
 use Prim.Native.Nat.{ℕ, _+_, _≤_}
 use mathlib.Core.Path.{_≡_, refl, sym, ap, ap₂, _∙_}
-use mathlib.Core.List.{List, [], _∷_, _++_, append-assoc, map}
+use mathlib.Core.List.{List, [], _∷_, _++_, append-assoc}
 use mathlib.Core.Bool.{true}
 use lib.ListN.{length, take}
 use Rattle.lists.specs.Search.{Each}
-use Rattle.records.specs.Notices.{Emits, encode, rows}
+use Rattle.records.specs.Notices.{Emits, rows}
 use Rattle.records.proofs.Emits.{emits-as, emits-rows}
 use Rattle.premise.specs.Refusals.{number}
-use Rattle.book.specs.declared.Book.{Book}
 use Rattle.book.specs.Book.{freshBook, bookKept}
 use Rattle.book.specs.Calls.{Result, noticeBytes}
 use Rattle.book.specs.CallsInRow.{recordsOf, called}
@@ -20,12 +19,11 @@ use Rattle.demands.specs.Sample.{plays}
 use Rattle.demands.specs.Tapes.{tapeOf}
 use Rattle.demands.proofs.ByDefinition.{promised, fed-to, rooms}
 use Rattle.tape_text.specs.Text.{recordLine}
-use Rattle.tape_reader.specs.declared.Reader.{Reader}
 use Rattle.tape_reader.specs.Counts.{mostRecords, counted}
 use Rattle.tape_reader.proofs.Counts.{counted-place}
 use Rattle.tape_output.specs.declared.Playing.{Playing}
 use Rattle.tape_output.specs.Output.{calendarMost, tapeMost, starting, playedOn, recordText, rowLines, ending, printed}
-use Rattle.tape_output.specs.TapeIsCalls.{callsText, afterCalls, TapeCalls, TapeIsCalls, CallsCanBeMade}
+use Rattle.tape_output.specs.TapeIsCalls.{callsText, afterCalls, TapeIsCalls, CallsCanBeMade}
 
 -- one call: the record's text, and the tape after it, are what it gave
 module _ (calendar : List ℕ) (p : Playing) (kept : bookKept (p .book) ≡ true) (m : Made)

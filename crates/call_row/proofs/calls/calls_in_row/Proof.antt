@@ -2,7 +2,6 @@
 -- is how many can still be noted. Of the record call it uses its promise and nothing else. Assumes nothing.
 use Prim.Native.Nat.{_+_, _*_, _-_, _≤_}
 use native.Mathlib.Omega.{arith}
-use borrow.Author.Needs.{needs}
 use lib.ListN.{length}
 use Rattle.records.specs.Layout.{recordLength}
 use Rattle.book.specs.Calls.{noticeBytes}

@@ -2,7 +2,6 @@
 -- Assumes nothing.
 use mathlib.Core.Path.{sym, _∙_}
 use borrow.Author.Needs.{needs}
-use borrow.Author.Tests.{eqb-true}
 use Rattle.premise_steps.proofs.replies.Answered.{answered-quiet, room-leaving, answered-done}
 use Rattle.premise_steps.proofs.new_order.ByAnswer.{order-refused, order-done, order-free}
 use Rattle.premise_steps.proofs.new_order.on_new_order.Statement.{statement}

@@ -70,7 +70,8 @@ abbrev pub CallFew : Type 0
 CallFew = (calendar : List ℕ) (b : Book) (bytes lent : List ℕ) → recordLength * length (call calendar b bytes lent .notices) ≤ length lent
 
 -- ---- the table of refusals
--- its rows' numbers, in its order: 1 to 15 of a record, with 18 after 4, 26 between 11 and 12 and 16 and 17 after 14, and 1 to 3 of malformed bytes, of which row 3 holds
+-- its rows' numbers, in its order: 1 to 15 of a record, with 18 after 4, 26 between 11 and 12 and 16 and 17 after 14, and 1 to 3 of
+-- malformed bytes, of which row 3 holds
 abbrev pub RowsOfRecord : Type 0
 RowsOfRecord =
     (calendar : List ℕ) (b : Book) (bytes lent : List ℕ) (r : Record) → reading bytes ≡ Says r

@@ -48,7 +48,8 @@ last-more answer [] x = refl
 last-more answer (y ∷ ys) x = last-more (y .answer) ys x
 
 -- ---- a number more noted
-pub noted-length : (numbers before after : List ℕ) → Noted numbers before after → length numbers ≤ length before → length after ≡ length before
+pub noted-length : (numbers before after : List ℕ) → Noted numbers before after → length numbers ≤ length before
+    → length after ≡ length before
 noted-length numbers before after e h =
     ap length e ∙ length-append numbers (drop (length numbers) before) ∙ omega (arith, length-drop (length numbers) before, h)
 
@@ -61,7 +62,8 @@ noted-more numbers before after i n e long h =
     ∙ ap (λ (k : ℕ). (numbers ++ (n ∷ [])) ++ drop k before) many
 
 -- ---- the tape after a record
-pub dropped : (tape : List ℕ) (from to : ℕ) → to ≡ min (from + recordLength) (length tape) → drop recordLength (drop from tape) ≡ drop to tape
+pub dropped : (tape : List ℕ) (from to : ℕ) → to ≡ min (from + recordLength) (length tape) → drop recordLength
+    (drop from tape) ≡ drop to tape
 dropped tape from to ends = drop-drop recordLength from tape ∙ go (leb (from + recordLength) (length tape)) refl
   where
     go : (inside : Bool) → leb (from + recordLength) (length tape) ≡ inside → drop (from + recordLength) tape ≡ drop to tape

@@ -174,7 +174,8 @@ module _ {calendar tape : List ℕ} {b : Book} {answers₀ counts₀ notices₀ 
   done-room h = done (inr (omega (arith, h, notices-length)))
 
   -- ---- a record is left and finds room, and its call is made
-  module _ (first : played < length answers) (other : played < length counts) (h : from < length tape) (room : noticeBytes ≤ length notices - recordLength * sent) (to : ℕ)
+  module _ (first : played < length answers) (other : played < length counts) (h : from < length tape)
+      (room : noticeBytes ≤ length notices - recordLength * sent) (to : ℕ)
       {reply : Reply} {part : List ℕ}
       (kept : Promised calendar c (take (to - from) (drop from tape))
       (take (length notices - recordLength * sent) (drop (recordLength * sent) notices)) reply part) where

@@ -74,7 +74,15 @@ record Says (b : Book) (course : Course) (ms : List Made) : Type 0 where
   last : (answer : Answer) → lastAnswer answer (course .results) ≡ lastGiven answer ms
 
 says-none : (b : Book) (records : List (List ℕ)) → Says b (stopped b records) []
-says-none b records = record { book = refl; count = refl; answers = refl; counts = refl; notices = refl; sent = refl; last = λ answer. refl }
+says-none b records = record {
+  book = refl;
+  count = refl;
+  answers = refl;
+  counts = refl;
+  notices = refl;
+  sent = refl;
+  last = λ answer. refl;
+}
 
 abbrev Stops : ℕ → List (List ℕ) → List Made → Type 0
 Stops free records ms = (length ms ≡ length records) ⊎ (free - recordLength * sentBy ms < noticeBytes)

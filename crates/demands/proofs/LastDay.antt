@@ -63,7 +63,8 @@ computed : AllComputed
 unfolding reviewed permitAwaited cancelAwaited ticked contends switchOfDay givesWay sameDaySwitch isDisplaced dropOnSwitchDay isOvertaken
     permitOvertaken isDue lossNotice evaluation refuses standsInWay notFirstIn marked stepped step places number premiseRows orderRows
     requestedDay makeRoom ordered taken onScheduled onPermit onUnexecutable onRead supplied onCancel onReply onOrder onDateChange onNamed
-    changed agreed orderKept isBlank fileKept fileBlank fieldOf encode wellFormed reading kindOfDay isBusinessDay switchDate businessDays inWindow
+    changed agreed orderKept isBlank fileKept fileBlank fieldOf encode wellFormed reading kindOfDay isBusinessDay switchDate businessDays
+    inWindow
     bookOf bookKept fileFor putIn takenOut callRows call lent made plays create7 create5 switch7 switch5 scheduled7 scheduled5 mark
     retire6 oneByte notices7 notices5 tape tape₂ tape₃
 computed = record {

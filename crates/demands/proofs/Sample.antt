@@ -37,7 +37,8 @@ pub comes : Comes
 unfolding reviewed permitAwaited cancelAwaited ticked contends switchOfDay givesWay sameDaySwitch isDisplaced dropOnSwitchDay isOvertaken
     permitOvertaken isDue lossNotice evaluation refuses standsInWay notFirstIn marked stepped step places number premiseRows orderRows
     requestedDay makeRoom ordered taken onScheduled onPermit onUnexecutable onRead supplied onCancel onReply onOrder onDateChange onNamed
-    changed agreed orderKept isBlank fileKept fileBlank fieldOf encode wellFormed reading kindOfDay isBusinessDay switchDate businessDays inWindow
+    changed agreed orderKept isBlank fileKept fileBlank fieldOf encode wellFormed reading kindOfDay isBusinessDay switchDate businessDays
+    inWindow
     bookOf bookKept fileFor putIn takenOut callRows call lent made plays create7 create5 order7 order5 change5 establish7 scheduled7
     scheduled5 mark1 malformed calendar tape sample shuffled again ordered7 agreed7 dated7 losing7 ordered5 changed5 dated5 losing5 buffers
 comes = record {

@@ -33,7 +33,8 @@ pub comes : Comes
 unfolding reviewed permitAwaited cancelAwaited ticked contends switchOfDay givesWay sameDaySwitch isDisplaced dropOnSwitchDay isOvertaken
     permitOvertaken isDue lossNotice evaluation refuses standsInWay notFirstIn marked stepped step places number premiseRows orderRows
     requestedDay makeRoom ordered taken onScheduled onPermit onUnexecutable onRead supplied onCancel onReply onOrder onDateChange onNamed
-    changed agreed orderKept isBlank fileKept fileBlank fieldOf encode wellFormed reading kindOfDay isBusinessDay switchDate businessDays inWindow
+    changed agreed orderKept isBlank fileKept fileBlank fieldOf encode wellFormed reading kindOfDay isBusinessDay switchDate businessDays
+    inWindow
     bookOf bookKept fileFor putIn takenOut callRows call lent made plays create7 dropOf beginning tape sample third dropped file7 found
 comes = record {
   answered = refl;

@@ -72,7 +72,8 @@ calendar = replicate 10 0
 -- the date change stands there twice: the second time its counter is not above the kept one
 unfoldable pub tape : List (List ℕ)
 tape =
-    create7 ∷ create5 ∷ order7 ∷ create7 ∷ establish7 ∷ order5 ∷ malformed ∷ change5 ∷ change5 ∷ scheduled5 ∷ scheduled7 ∷ mark1 ∷ mark1 ∷ []
+    create7 ∷ create5 ∷ order7 ∷ create7 ∷ establish7 ∷ order5 ∷ malformed ∷ change5 ∷ change5 ∷ scheduled5 ∷ scheduled7 ∷ mark1 ∷ mark1
+    ∷ []
 
 unfoldable pub sample : List Made
 sample = plays calendar (freshBook 0) tape

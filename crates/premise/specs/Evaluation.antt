@@ -82,8 +82,8 @@ permitOvertaken today premise os o = cond (isOvertaken today os o) (cancelling p
 abbrev pub permitsOvertaken : ℕ → ℕ → List Order → Outcome
 permitsOvertaken today premise os = pass (λ (i : ℕ). permitOvertaken today premise os) os
 
--- Pass 4. Scheduled, not a move out, in window, told 0: .. Document 02, change 3: "In the fourth pass a move out that is Scheduled, in window
--- and not told gets told 1 and notice 12 (814_22) to C, both only if C is not 0."
+-- Pass 4. Scheduled, not a move out, in window, told 0: .. Document 02, change 3: "In the fourth pass a move out that is Scheduled, in
+-- window and not told gets told 1 and notice 12 (814_22) to C, both only if C is not 0."
 unfoldable pub isDue : (ℕ → Bool) → ℕ → Order → Bool
 isDue near agreement o =
     hasStatus scheduled o && (not (hasKind moveOut o) || not (eqb agreement noRetailer)) && eqb (o .told) 0 && near (o .scheduled)

@@ -52,7 +52,8 @@ atPlace calendar today f r Nothing = record { file = f; notices = [] }
 -- an accepted record 3 to 9, or 11, on its file: the steps of its kind, then the evaluation
 unfoldable pub stepped : List ℕ → ℕ → File → Record → Effect
 stepped calendar today f r =
-    followed (cond (is kindNewOrder r) (ordered calendar today f r) (atPlace calendar today f r (named r (held f)))) (evaluated calendar today)
+    followed (cond (is kindNewOrder r) (ordered calendar today f r) (atPlace calendar today f r (named r (held f))))
+    (evaluated calendar today)
 
 -- .. and an agreement, which runs no evaluation
 abbrev pub recordDone : List ℕ → ℕ → File → Record → Effect

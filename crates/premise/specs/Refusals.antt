@@ -1,6 +1,6 @@
--- Document 01, "The book": the table of refusals. The rows of the one-premise rules, in its order: 4 and 5, which go by the file or none, with
--- 18 of document 02, change 3, between them, and 7 to 15, with 26 of its change 12 between 11 and 12, and 16 and 17 of its change 1 after 14. Row 3 goes by the
--- record's bytes alone (`reading`); rows 1, 2 and 6 are the book's.
+-- Document 01, "The book": the table of refusals. The rows of the one-premise rules, in its order: 4 and 5, which go by the file or none,
+-- with 18 of document 02, change 3, between them, and 7 to 15, with 26 of its change 12 between 11 and 12, and 16 and 17 of its change 1
+-- after 14. Row 3 goes by the record's bytes alone (`reading`); rows 1, 2 and 6 are the book's.
 use Prim.Native.Nat.{ℕ, _+_}
 use mathlib.Core.List.{List, [], _∷_, _++_}
 use mathlib.Core.Option.{Option, none, some}
@@ -18,7 +18,8 @@ use Rattle.premise.specs.declared.Order.{Order}
 use Rattle.premise.specs.declared.File.{File}
 use Rattle.premise.specs.declared.Answer.{Answer}
 use Rattle.premise.specs.declared.Answer.the-variants.{Accepted, ShortBuffer, NotWellKept, MalformedRecord, NoSuchPremise}
-use Rattle.premise.specs.declared.Answer.the-variants.{OtherAgreement, PremiseHeld, BookFull, OrderOpen, ReferenceHeld, DayOutOfRange, NoSwitchDate}
+use Rattle.premise.specs.declared.Answer.the-variants.{OtherAgreement, PremiseHeld, BookFull, OrderOpen, ReferenceHeld, DayOutOfRange}
+use Rattle.premise.specs.declared.Answer.the-variants.{NoSwitchDate}
 use Rattle.premise.specs.declared.Answer.the-variants.{NotFirstIn, RetailerShareFull, StackFull, NoSuchOrder, StatusNotTaken}
 use Rattle.premise.specs.declared.Answer.the-variants.{CounterNotAbove, OrderInWindow, NotNextDay}
 use Rattle.premise.specs.Orders.{mostOrders, mostOfOne, scheduled, hasStatus, isOpen, openOf, held}

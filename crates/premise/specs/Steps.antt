@@ -19,7 +19,8 @@ use Rattle.premise.specs.Orders.{mostOrders, inReview, permitPending, sc
 use Rattle.premise.specs.Orders.{hasStatus, hasKind, isOpen, isClosed, noRetailer, businessDays, calendarDays, withStatus}
 use Rattle.premise.specs.Orders.{withScheduled, withWaited, withPending, blank, held, withOrders, withSupply, withAgreement}
 use Rattle.premise.specs.Passes.{Change, Effect, notice, codeOrder, codeMoveOut, codeScheduled, codeCancel, codePermit}
-use Rattle.premise.specs.Passes.{codeUnexecutable, codeReject, codeDateChange, codeAgreementRequest, codeAgreementResponse, noticeOfNoOrder}
+use Rattle.premise.specs.Passes.{codeUnexecutable, codeReject, codeDateChange, codeAgreementRequest, codeAgreementResponse}
+use Rattle.premise.specs.Passes.{noticeOfNoOrder}
 
 -- whether a record is of a kind
 abbrev pub is : ℕ → Record → Bool
@@ -111,8 +112,8 @@ onPermit f r o =
       notices = notice codePermit (f .premise) (o .submitter) (withWaited 0 (withStatus permitPending o)) ∷ [];
     }
 
--- Whom a told order tells: R. Document 02, change 3: "When a told move out is unexecutable, the second notice 7 goes to C, whatever R is; if
--- C is 0, there is none."
+-- Whom a told order tells: R. Document 02, change 3: "When a told move out is unexecutable, the second notice 7 goes to C, whatever R is;
+-- if C is 0, there is none."
 abbrev pub toldRetailer : File → Order → ℕ
 toldRetailer f o = cond (hasKind moveOut o) (f .agreement) (f .retailer)
 
@@ -136,14 +137,14 @@ onRead f r o =
       notices = [];
     }
 
--- Document 02, change 4: "on a day equal to S, a move out leaves R as it is if R was set by a move in read on that day" .. "The move out that
--- is held off becomes Complete; R, S and the mark remain."
+-- Document 02, change 4: "on a day equal to S, a move out leaves R as it is if R was set by a move in read on that day" .. "The move out
+-- that is held off becomes Complete; R, S and the mark remain."
 abbrev pub isHeldOff : File → Record → Order → Bool
 isHeldOff f r o = hasKind moveOut o && eqb (r .day) (f .since) && eqb (f .entered) 1
 
 -- 7, from 3: if the day is at least S, then S is the day and R becomes Q (0 for a move out). Document 02, change 3: "A move out's read on a
--- day not before S now sets R to C, where it set 0." Change 4: "The mark is set by every read from Scheduled of a move in on a day not before
--- S, even when R was already its retailer; a read from Permit Pending leaves it. Any other read that sets R clears it".
+-- day not before S now sets R to C, where it set 0." Change 4: "The mark is set by every read from Scheduled of a move in on a day not
+-- before S, even when R was already its retailer; a read from Permit Pending leaves it. Any other read that sets R clears it".
 unfoldable pub supplied : File → Record → Order → File
 supplied f r o =
     cond (is kindRead r && hasStatus scheduled o && leb (f .since) (r .day) && not (isHeldOff f r o))
@@ -182,8 +183,8 @@ onOrder f r o =
     (cond (is kindCancel r) (onCancel f r o)
     (onReply f r o)))))
 
--- Document 02, change 1. 11 date change: "When taken, RD is the new day, SD is none, status is In Review, and N restarts as for a new order.
--- .. Told becomes 0 in every case." The counter is kept; F, K, Q and W stay.
+-- Document 02, change 1. 11 date change: "When taken, RD is the new day, SD is none, status is In Review, and N restarts as for a new
+-- order. .. Told becomes 0 in every case." The counter is kept; F, K, Q and W stay.
 abbrev pub redated : List ℕ → ℕ → Record → Order → Order
 redated calendar today r o =
     record {

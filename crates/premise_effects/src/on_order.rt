@@ -132,8 +132,8 @@ fn told_retailer(kind: u8, retailer: u32, agreement: u32) -> u32
     }
 }
 
-// What a record of kinds 4 to 9 does to the order that it names: the order as the record leaves it, and its notice. Of an unexecutable order
-// that has been told of, the retailer that heard of it hears too.
+// What a record of kinds 4 to 9 does to the order that it names: the order as the record leaves it, and its notice. Of an unexecutable
+// order that has been told of, the retailer that heard of it hears too.
 pub fn change_status(
     file: File,
     r: Record,

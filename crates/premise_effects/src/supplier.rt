@@ -7,8 +7,8 @@ use records::Record;
 use records::order_kind;
 
 // The file after a record: a read of a Scheduled order, on a day not before the one since which the retailer holds, hands the premise to
-// the order's retailer, and for a move out to that of the owner's agreement, or nobody. The mark says whether that was a move in; a move out
-// on the day of one is held off.
+// the order's retailer, and for a move out to that of the owner's agreement, or nobody. The mark says whether that was a move in; a move
+// out on the day of one is held off.
 pub fn supply(file: File, r: Record, o: Order) -> File
     ensures { λ f. ⌜ f ≡ supplied file r o ⌝ }
 {

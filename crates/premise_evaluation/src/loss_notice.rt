@@ -32,7 +32,8 @@ pub fn tell_losing_retailer(
     buffer: &mut [u8],
 ) -> OrderAfter
     requires { ⌜ Room standing (lossNotice (upTo last) premise retailer agreement o .notices) (now buffer) ⌝ }
-    ensures { λ r. ⌜ DoneToOrder (lossNotice (upTo last) premise retailer agreement o) standing r (now (buffer .entry)) (now (buffer .exit)) ⌝ }
+    ensures { λ r. ⌜ DoneToOrder (lossNotice (upTo last) premise retailer agreement o) standing r (now (buffer .entry))
+        (now (buffer .exit)) ⌝ }
 {
     if !is_due(last, agreement, o) {
         return OrderAfter {

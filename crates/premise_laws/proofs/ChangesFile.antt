@@ -56,7 +56,8 @@ module _ (today last : ℕ) where
     losses-still : lossNotices (upTo last) f os ≡ record { orders = os; notices = [] }
     losses-still =
         pass-same (changesOrder today last (f .agreement) os) (λ (i : ℕ). lossNotice (upTo last) (f .premise) (f .retailer) (f .agreement))
-        (λ i o h. loss-stays (upTo last) o (f .premise) (f .retailer) (f .agreement) (let-be today last (f .agreement) os i o h .four)) 0 os e
+        (λ i o h. loss-stays (upTo last) o (f .premise) (f .retailer) (f .agreement)
+        (let-be today last (f .agreement) os i o h .four)) 0 os e
 
     evaluation-still : evaluation (upTo last) today f os ≡ record { orders = os; notices = [] }
     unfolding evaluation

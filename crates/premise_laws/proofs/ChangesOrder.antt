@@ -44,17 +44,20 @@ module _ (today last agreement : ℕ) (os : List Order) (i : ℕ) (o : Order) wh
   -- ---- the pass that may change it
   pub changes-due : isDue (upTo last) agreement o ≡ true → true ≡ changesOrder today last agreement os i o
   unfolding changesOrder
-  changes-due e = or-last (givesWay (upTo last) os i o || isDisplaced (upTo last) os o || isOvertaken today os o) (isDue (upTo last) agreement o) e
+  changes-due e = or-last (givesWay (upTo last) os i o || isDisplaced (upTo last) os o || isOvertaken today os o)
+      (isDue (upTo last) agreement o) e
 
   -- neither Scheduled nor Cancel Pending, or not in window: pass 3
-  changes-far : (isScheduledOrCancelPending o && upTo last (o .scheduled)) ≡ false → isOvertaken today os o ≡ changesOrder today last agreement os i o
+  changes-far : (isScheduledOrCancelPending o && upTo last (o .scheduled)) ≡ false
+      → isOvertaken today os o ≡ changesOrder today last agreement os i o
   unfolding changesOrder givesWay contends isDisplaced isDue
   changes-far far =
       let near = upTo last (o .scheduled) in
       only-third (givesWay (upTo last) os i o) (isDisplaced (upTo last) os o) (isOvertaken today os o) (isDue (upTo last) agreement o)
       (one (isSwitch o) (isScheduledOrCancelPending o) near (not (isAt (switchOfDay (upTo last) os (o .scheduled)) i)) far)
       (two (hasKind massTransitionDrop o) (hasStatus scheduled o) (hasStatus cancelPending o) near (anyOf (switchOn (o .scheduled)) os) far)
-      (four (hasStatus scheduled o) (hasStatus cancelPending o) (not (hasKind moveOut o) || not (eqb agreement noRetailer)) (eqb (o .told) 0) near far)
+      (four (hasStatus scheduled o) (hasStatus cancelPending o) (not (hasKind moveOut o) || not (eqb agreement noRetailer))
+      (eqb (o .told) 0) near far)
     where
       one : (k s n x : Bool) → (s && n) ≡ false → (k && s && n && x) ≡ false
       one true s n x h = ap (λ (b : Bool). b && x) h

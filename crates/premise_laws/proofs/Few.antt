@@ -56,7 +56,8 @@ evaluation-few near only today f os =
           (drop-few near only today premise retailer agreement (one .orders)) 0 (one .orders),
       each-few atDropping atTelling (λ (i : ℕ). permitOvertaken today premise (two .orders))
           (overtaken-few near only today premise retailer agreement (two .orders)) 0 (two .orders),
-      each-few atTelling done (λ (i : ℕ). lossNotice near premise retailer agreement) (loss-few near only today premise retailer agreement (three .orders)) 0
+      each-few atTelling done (λ (i : ℕ). lossNotice near premise retailer agreement)
+          (loss-few near only today premise retailer agreement (three .orders)) 0
           (three .orders),
       length-append (one .notices) (two .notices),
       length-append (one .notices ++ two .notices) (three .notices),
@@ -126,7 +127,8 @@ unfolding stepped
 stepped-few calendar today f r h room =
     let first : Effect = cond (is kindNewOrder r) (ordered calendar today f r) (atPlace calendar today f r (named r (held f))) in
     let few : Few first =
-    by-test Few (is kindNewOrder r) _ _ (λ e. new-few calendar today f r (room e)) (λ e. place-few calendar today f r (named r (held f)) h) in
+    by-test Few (is kindNewOrder r) _ _ (λ e. new-few calendar today f r (room e))
+    (λ e. place-few calendar today f r (named r (held f)) h) in
     omega (
       arith,
       few .notices,
@@ -139,7 +141,8 @@ stepped-few calendar today f r h room =
 agreed-few : (f : File) (r : Record) → length (agreed f r .notices) ≤ mostOfRecord
 unfolding agreed
 agreed-few f r =
-    by-test (λ (e : Effect). length (e .notices) ≤ mostOfRecord) (eqb (r .detail) delete) _ _ (λ d. omega arith) (λ d. go (hasOtherHolder f r))
+    by-test (λ (e : Effect). length (e .notices) ≤ mostOfRecord) (eqb (r .detail) delete) _ _ (λ d. omega arith)
+    (λ d. go (hasOtherHolder f r))
   where
     go : (other : Bool)
         → length (cond other (noticeOfNoOrder codeAgreementRequest (f .premise) (f .agreement) ∷ []) []

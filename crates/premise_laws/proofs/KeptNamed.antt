@@ -1,5 +1,5 @@
--- Kinds 4 to 9 and 11 leave a well-kept file: the order that they name was open, and stands in its place with its reference and its Q, kept;
--- a meter read takes R from an order's Q or from C and S from the record's day, all in range. Assumes nothing.
+-- Kinds 4 to 9 and 11 leave a well-kept file: the order that they name was open, and stands in its place with its reference and its Q,
+-- kept; a meter read takes R from an order's Q or from C and S from the record's day, all in range. Assumes nothing.
 use Prim.Native.Nat.{ℕ, _<_}
 use mathlib.Core.Path.{_≡_, refl, sym, _∙_}
 use mathlib.Core.List.{List}
@@ -92,7 +92,8 @@ module _ (calendar : List ℕ) (today : ℕ) (f : File) (r : Record) (o : Order)
   supplied-keeps : (premise : ℕ) → KeptFor premise f → HeaderKept premise (supplied f r o)
   unfolding supplied
   supplied-keeps premise h =
-      by-test (HeaderKept premise) (is kindRead r && hasStatus scheduled o && leb (f .since) (r .day) && not (isHeldOff f r o)) _ f (λ e. record {
+      by-test (HeaderKept premise) (is kindRead r && hasStatus scheduled o && leb (f .since) (r .day) && not (isHeldOff f r o)) _ f
+      (λ e. record {
         number = h .number;
         known = h .kept .premise;
         agreement = h .kept .agreement;
@@ -117,7 +118,8 @@ set-leaves os i o k a =
       kept = each-set OrderKept os i o k (a .kept);
     }
 
-pub named-leaves : (calendar : List ℕ) (today : ℕ) (f : File) (r : Record) → wellFormed r ≡ true → taken r (orderAt (held f) (named r (held f))) ≡ true
+pub named-leaves : (calendar : List ℕ) (today : ℕ) (f : File) (r : Record) → wellFormed r ≡ true → taken r
+    (orderAt (held f) (named r (held f))) ≡ true
     → (premise : ℕ) → KeptFor premise f → LeavesFile premise f (atPlace calendar today f r (named r (held f)) .file)
 unfolding changed
 named-leaves calendar today f r w t premise h = go (named r (held f)) (place-in (hasReference (r .reference)) (held f)) t

@@ -80,7 +80,8 @@ both-leave first next os a n = leaves-then os (first .orders) (next (first .orde
 
 module _ (near : ℕ → Bool) (today : ℕ) (f : File) where
   same-day-leaves : (os : List Order) → Each OrderKept os → LeavesAll os (sameDaySwitches near (f .premise) os .orders)
-  same-day-leaves os k = pass-leaves (sameDaySwitch near (f .premise) os) (λ i o h. leaves-same-day near today (f .premise) (f .retailer) (f .agreement) os o h i) 0 os k
+  same-day-leaves os k = pass-leaves (sameDaySwitch near (f .premise) os)
+      (λ i o h. leaves-same-day near today (f .premise) (f .retailer) (f .agreement) os o h i) 0 os k
 
   drops-leave : (os : List Order) → Each OrderKept os → LeavesAll os (dropsOnSwitchDays near f os .orders)
   drops-leave os k = pass-leaves (λ (i : ℕ). dropOnSwitchDay near (f .premise) (f .retailer) os)
@@ -92,7 +93,8 @@ module _ (near : ℕ → Bool) (today : ℕ) (f : File) where
       0 os k
 
   losses-leave : (os : List Order) → Each OrderKept os → LeavesAll os (lossNotices near f os .orders)
-  losses-leave os k = pass-leaves (λ (i : ℕ). lossNotice near (f .premise) (f .retailer) (f .agreement)) (λ i o h. leaves-loss near today (f .premise) (f .retailer) (f .agreement) os o h) 0
+  losses-leave os k = pass-leaves (λ (i : ℕ). lossNotice near (f .premise) (f .retailer) (f .agreement))
+      (λ i o h. leaves-loss near today (f .premise) (f .retailer) (f .agreement) os o h) 0
       os k
 
   pub evaluation-leaves : (os : List Order) → Each OrderKept os → LeavesAll os (evaluation near today f os .orders)

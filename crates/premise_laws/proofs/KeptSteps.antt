@@ -42,7 +42,8 @@ names-order : (r : Record) → wellFormed r ≡ true → is kindCreate r ≡ fal
 names-order r w c t n d a = go (is kindDateChange r) refl
   where
     go : (change : Bool) → is kindDateChange r ≡ change → namesOrder r ≡ true
-    go true e = ap (λ (x : Bool). leb kindScheduled (r .kind) && leb (r .kind) kindReply || x) e ∙ or-true (leb kindScheduled (r .kind) && leb (r .kind) kindReply)
+    go true e = ap (λ (x : Bool). leb kindScheduled (r .kind) && leb (r .kind) kindReply || x) e ∙ or-true
+        (leb kindScheduled (r .kind) && leb (r .kind) kindReply)
     go false e =
         let k = formed r w .kind in
         ap₂ (λ (x y : Bool). x && y || is kindDateChange r)
@@ -71,7 +72,8 @@ module _ (calendar : List ℕ) (today : ℕ) (r : Record) (premise retailer : �
       let fits = create-fits r w e in
       record {
         kept = kept-with premise (newFile r) []
-            (record { number = p; known = fits .premise; retailer = fits .retailer; since = fits .day; agreement = refl; entered = refl }) (omega arith) tt refl;
+            (record { number = p; known = fits .premise; retailer = fits .retailer; since = fits .day; agreement = refl; entered = refl })
+            (omega arith) tt refl;
         share = λ h. omega arith;
       }
 

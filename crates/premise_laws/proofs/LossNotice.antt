@@ -15,12 +15,14 @@ module _ (near : ℕ → Bool) (o : Order) (premise retailer agreement : ℕ) wh
   unfolding lossNotice
   loss-stays e = simp e
 
-  pub loss-unsaid : isDue near agreement o ≡ true → hasKind moveOut o ≡ false → (eqb retailer noRetailer || eqb retailer (o .submitter)) ≡ true
+  pub loss-unsaid : isDue near agreement o ≡ true → hasKind moveOut o ≡ false →
+      (eqb retailer noRetailer || eqb retailer (o .submitter)) ≡ true
       → lossNotice near premise retailer agreement o ≡ same (withTold 1 o)
   unfolding lossNotice
   loss-unsaid e m r = simp (e, m, r)
 
-  pub loss-said : isDue near agreement o ≡ true → hasKind moveOut o ≡ false → (eqb retailer noRetailer || eqb retailer (o .submitter)) ≡ false
+  pub loss-said : isDue near agreement o ≡ true → hasKind moveOut o ≡ false →
+      (eqb retailer noRetailer || eqb retailer (o .submitter)) ≡ false
       → lossNotice near premise retailer agreement o
       ≡ record { order = withTold 1 o; notices = notice codeLosing premise retailer (withTold 1 o) ∷ [] }
   unfolding lossNotice

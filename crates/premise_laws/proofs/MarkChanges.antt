@@ -39,7 +39,8 @@ unchanged-stays calendar today last f tidy window e =
     let os = held f in
     let agreement = f .agreement in
     let wound = pass-same (markChangesOrder business today last agreement os) (λ (i : ℕ). ticked business today (f .premise))
-    (λ i o h. tick-still business today o (f .premise) (or-left (clockChanges business today o) (changesOrder today last agreement os i o) h)) 0
+    (λ i o h. tick-still business today o (f .premise) (or-left (clockChanges business today o)
+    (changesOrder today last agreement os i o) h)) 0
     os e in
     let quiet = any-less (markChangesOrder business today last agreement os) (changesOrder today last agreement os)
     (λ i o. or-right (clockChanges business today o) (changesOrder today last agreement os i o)) 0 os e in

@@ -121,7 +121,8 @@ unfolding stepped
 stepped-of calendar today f r =
     let first : Effect = cond (is kindNewOrder r) (ordered calendar today f r) (atPlace calendar today f r (named r (held f))) in
     let stays : Stays (f .premise) first =
-    by-test (Stays (f .premise)) (is kindNewOrder r) _ _ (λ e. new-of calendar today f r) (λ e. place-of calendar today f r (named r (held f))) in
+    by-test (Stays (f .premise)) (is kindNewOrder r) _ _ (λ e. new-of calendar today f r)
+    (λ e. place-of calendar today f r (named r (held f))) in
     each-followed (Of (f .premise)) first (evaluated calendar today) (stays .notices)
     (evaluated-of calendar today (f .premise) (first .file) (stays .file))
 

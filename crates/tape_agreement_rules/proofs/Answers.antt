@@ -17,7 +17,8 @@ use Rattle.tape_agreement_rules.specs.declared.Agreement.{Agreement}
 use Rattle.tape_agreement_rules.specs.declared.Agreement.the-variants.{Same, MarksDiffer, Differ}
 use Rattle.tape_agreement_rules.specs.Agreement.{saysYes, numberGiven, recordsIn, marksOf, premisesOf, sameRecords, differAt}
 use Rattle.tape_agreement_rules.specs.Agreement.{smallestOf, answerOf, agreement, Compared}
-use Rattle.tape_agreement_rules.specs.Theorems.{AgreeAt, MarksAgree, YesExactly, YesIncludesMarks, SaysNo, NoGivesZero, SmallestDiffers}
+use Rattle.tape_agreement_rules.specs.Theorems.{AgreeAt, MarksAgree, YesExactly, YesIncludesMarks, SaysNo, NoGivesZero}
+use Rattle.tape_agreement_rules.specs.Theorems.{SmallestDiffers}
 use Rattle.tape_agreement_rules.specs.Theorems.{NoGivesPremise}
 use Rattle.tape_agreement_rules.proofs.Cuts.{cut-bytes}
 use Rattle.tape_agreement_rules.proofs.Lists.{records-same, records-differ, of-each, Smallest, smallest}

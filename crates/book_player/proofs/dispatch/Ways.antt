@@ -48,7 +48,8 @@ module _ (today day : ℕ) where
 module _ (r : Record) where
   an-agreement : r .kind ≡ kindAgreement → needsPremise r ≡ true
   an-agreement e =
-      ap (λ (b : Bool). fromOrChange kindRetire (r .kind) || b) (eq-eqb (r .kind) kindAgreement e) ∙ or-true (fromOrChange kindRetire (r .kind))
+      ap (λ (b : Bool). fromOrChange kindRetire (r .kind) || b) (eq-eqb (r .kind) kindAgreement e) ∙ or-true
+      (fromOrChange kindRetire (r .kind))
 
   pub needs-one : ((kindRetire ≤ r .kind) × (r .kind ≤ kindReply)) ⊎ ((kindDateChange ≤ r .kind) × (r .kind ≤ kindAgreement))
       → needsPremise r ≡ true

@@ -11,7 +11,8 @@ use Rattle.premise.specs.Orders.{inReview, scheduled, complete, unexecut
 use Rattle.premise.specs.Passes.{codeOrder, codeMoveOut, codeScheduled, codeLosing, codeUnexecutable, codeDateChange}
 use Rattle.premise.specs.Passes.{codeAgreementRequest, codeAgreementResponse, codeAgreementMoveIn}
 use Rattle.premise.specs.Pieces.Forms.{Case, Piece, piece, tells, leaves, plays, does, line, create, retire, order, schedule}
-use Rattle.premise.specs.Pieces.Forms.{unexecuted, read, cancel, redate, establishes, deletes, marks, business, stands, counted, state}
+use Rattle.premise.specs.Pieces.Forms.{unexecuted, read, cancel, redate, establishes, deletes, marks, business, stands, counted}
+use Rattle.premise.specs.Pieces.Forms.{state}
 use Rattle.premise.specs.Pieces.Forms.{stateWith, nothing, sent}
 
 -- ---- kind 12 and row 18
@@ -86,7 +87,8 @@ agreementsTold =
     ∷ piece "6: a move out that was not told" (gives-up 101 900 moveOut 0 [])
     ∷ piece "6: a told move in, R and C" (gives-up 101 900 moveIn 1 (sent codeUnexecutable moveIn 15 1 101 ∷ []))
     ∷ piece "6: a told move in, C and no R" (gives-up 0 900 moveIn 1 [])
-    ∷ piece "7: a move out read on a day not before S: R is C" (does (business 16) (stateWith 900 10 101 5 (leaving 101 12 1 ∷ [])) (read 1 5)
+    ∷ piece "7: a move out read on a day not before S: R is C" (does (business 16) (stateWith 900 10 101 5 (leaving 101 12 1 ∷ []))
+    (read 1 5)
     [] (stateWith 900 10 900 5 (stands 1 moveOut 101 12 5 complete 4 0 1 ∷ [])))
     ∷ piece "7: a move out read on a day before S: R stays" (does (business 16) (stateWith 900 10 101 8 (leaving 101 12 1 ∷ [])) (read 1 7)
     [] (stateWith 900 10 101 8 (stands 1 moveOut 101 12 7 complete 4 0 1 ∷ [])))

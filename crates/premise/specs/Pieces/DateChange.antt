@@ -9,7 +9,8 @@ use Rattle.records.specs.Records.{moveIn, moveOut, standardSwitch, selfSelected
 use Rattle.premise.specs.declared.Order.{Order}
 use Rattle.premise.specs.Orders.{inReview, permitPending, scheduled, cancelPending, complete}
 use Rattle.premise.specs.Passes.{codeOrder, codeScheduled, codeLosing, codeCancel, codeDateChange}
-use Rattle.premise.specs.Pieces.Forms.{Case, Piece, piece, answered, asked, tells, plays, daily, does, line, create, order, schedule, permit}
+use Rattle.premise.specs.Pieces.Forms.{Case, Piece, piece, answered, asked, tells, plays, daily, does, line, create, order, schedule}
+use Rattle.premise.specs.Pieces.Forms.{permit}
 use Rattle.premise.specs.Pieces.Forms.{cancel, redate, mark, business, plain, with10, stands, counted, state, nothing, sent}
 
 -- the older order: a move in, read on 4
@@ -42,7 +43,8 @@ redates =
     (state 10 101 5 (stands 1 selfSelectedSwitch 301 3 12 scheduled 2 0 0 ∷ stands 2 moveIn 202 12 noDay inReview 4 0 0 ∷ []))
     (redate 2 25 1 ∷ []) (movedTo moveIn tdsp ∷ sent codeLosing selfSelectedSwitch 12 1 101 ∷ []))
     ∷ piece "11: N restarts, and the review ends by the new RD"
-    (daily (business 60) 48 (create 0 101 ∷ order moveIn 49 1 202 ∷ mark 49 ∷ redate 1 50 1 ∷ []) (inReview ∷ inReview ∷ cancelPending ∷ []))
+    (daily (business 60) 48 (create 0 101 ∷ order moveIn 49 1 202 ∷ mark 49 ∷ redate 1 50 1 ∷ [])
+    (inReview ∷ inReview ∷ cancelPending ∷ []))
     ∷ []
 
 -- a move in of 202 for 20, told while it is scheduled for 12, cancelled, and scheduled again for 30
@@ -80,8 +82,8 @@ redatedOnTape =
     ∷ piece "11: the same where R is 0" (tells (business 31) (nothing 10) (told 0 ++ (to40 ∷ [])) (on40 tdsp ∷ []))
     ∷ []
 
--- an order 1 of 201 that keeps the counter 9, by K, SD and status; a date change of it with a lower counter, the same, a higher one, and one
--- of an order that is not held
+-- an order 1 of 201 that keeps the counter 9, by K, SD and status; a date change of it with a lower counter, the same, a higher one, and
+-- one of an order that is not held
 abbrev dated : ℕ → ℕ → ℕ → List ℕ → Case
 dated kind for status answers =
     asked plain (state 10 101 5 (counted 9 (stands 1 kind 201 3 for status 4 0 1) ∷ []))

@@ -331,7 +331,8 @@ failing false name more = name ∷ more
 -- The names of the pieces that do not hold. (Where it is opened, so are the rules that a case computes with.)
 unfoldable pub failed : List Piece → List String
 unfolding kindOfDay isBusinessDay switchDate window.businessDays inWindow places requestedDay makeRoom ordered taken onScheduled onPermit
-    onUnexecutable onRead supplied onCancel onReply onOrder onDateChange onNamed changed agreed reviewed permitAwaited cancelAwaited ticked contends switchOfDay
+    onUnexecutable onRead supplied onCancel onReply onOrder onDateChange onNamed changed agreed reviewed permitAwaited cancelAwaited ticked
+    contends switchOfDay
     givesWay sameDaySwitch isDisplaced dropOnSwitchDay isOvertaken permitOvertaken isDue lossNotice evaluation refuses standsInWay
     notFirstIn orderKept isBlank fileKept fileBlank number premiseRows orderRows marked stepped step
 failed [] = []

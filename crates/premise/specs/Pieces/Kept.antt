@@ -5,7 +5,8 @@ use lib.ListN.{replicate}
 use Rattle.days.specs.Days.{noDay}
 use Rattle.records.specs.Notices.{tdsp}
 use Rattle.records.specs.Records.{kindCreate, kindRetire, kindNewOrder, kindScheduled, kindPermit, kindUnexecutable, kindRead, kindCancel}
-use Rattle.records.specs.Records.{kindReply, kindDayMark, kindDateChange, kindAgreement, establish, delete, moveIn, moveOut, standardSwitch, selfSelectedSwitch, massTransitionDrop}
+use Rattle.records.specs.Records.{kindReply, kindDayMark, kindDateChange, kindAgreement, establish, delete, moveIn, moveOut, standardSwitch}
+use Rattle.records.specs.Records.{selfSelectedSwitch, massTransitionDrop}
 use Rattle.records.specs.Records.{replyAccept, replyReject}
 use Rattle.premise.specs.declared.Order.{Order}
 use Rattle.premise.specs.declared.File.{File}
@@ -80,7 +81,8 @@ keptOrders =
     ∷ stands 1 moveOut 201 3 noDay inReview 4 0 1 ∷ []))
     ∷ piece "not well kept: told 2" (damaged (stands 1 moveIn 201 3 12 scheduled 4 0 2 ∷ []))
     ∷ piece "well kept: any counter, whatever K and status"
-    (keeps (counted 1 (inStatus inReview noDay) ∷ counted 4294967295 (inStatus complete 12) ∷ counted 4294967295 (ofKind cancelled standardSwitch)
+    (keeps (counted 1 (inStatus inReview noDay) ∷ counted 4294967295 (inStatus complete 12) ∷ counted 4294967295
+    (ofKind cancelled standardSwitch)
     ∷ []))
     ∷ []
 
@@ -130,7 +132,8 @@ keptFiles =
     ∷ piece "well kept: C from 0 to 999,999,999"
     (keepsFiles (withAgreement (file 101 5 []) 1 ∷ withAgreement (file 0 5 []) 999999999 ∷ []))
     ∷ piece "not well kept: C 1,000,000,000" (damagedFiles (withAgreement (file 101 5 []) 1000000000 ∷ []))
-    ∷ piece "well kept: the mark of a move in, 0 or 1" (keepsFiles (file 101 5 [] ∷ enteredFile (file 101 5 []) ∷ enteredFile (file 0 5 []) ∷ []))
+    ∷ piece "well kept: the mark of a move in, 0 or 1" (keepsFiles
+    (file 101 5 [] ∷ enteredFile (file 101 5 []) ∷ enteredFile (file 0 5 []) ∷ []))
     ∷ piece "not well kept: a mark of 2" (damagedFiles (withSupply (file 101 5 []) 101 5 2 ∷ []))
     ∷ piece "well kept: 1 and 8 orders" (keepsFiles (file 101 5 (referred 1 scheduled ∷ []) ∷ file 101 5 eight ∷ []))
     ∷ piece "not well kept: 9 orders, 7 or 9 places"

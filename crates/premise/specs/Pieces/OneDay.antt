@@ -7,7 +7,8 @@ use Rattle.records.specs.Records.{moveIn, moveOut, selfSelectedSwitch, massTran
 use Rattle.premise.specs.declared.Order.{Order}
 use Rattle.premise.specs.Orders.{inReview, permitPending, scheduled, complete}
 use Rattle.premise.specs.OnePremise.{State}
-use Rattle.premise.specs.Pieces.Forms.{Case, Piece, piece, leaves, create, read, plain, stands, state, stateWith, stateEntered, nothing}
+use Rattle.premise.specs.Pieces.Forms.{Case, Piece, piece, leaves, create, read, plain, stands, state, stateWith, stateEntered}
+use Rattle.premise.specs.Pieces.Forms.{nothing}
 
 -- an order by its reference, K and Q that waits for its read; and read on a day
 abbrev waiting : ℕ → ℕ → ℕ → Order
@@ -49,7 +50,8 @@ oneDay =
     ∷ piece "one day: every move out of the day is held off, one of a later day is not"
     (ends (arrives ∷ goes 2 ∷ goes 3 ∷ goes 4 ∷ []) (read 1 12 ∷ read 2 12 ∷ read 3 12 ∷ read 4 13 ∷ [])
     (state 10 0 13 (arrived ∷ gone 2 12 ∷ gone 3 12 ∷ gone 4 13 ∷ [])))
-    ∷ piece "one day: with an agreement R stays too" (leaves plain (stateWith 900 10 101 0 (arrives ∷ goes 2 ∷ [])) (read 1 12 ∷ read 2 12 ∷ [])
+    ∷ piece "one day: with an agreement R stays too" (leaves plain (stateWith 900 10 101 0 (arrives ∷ goes 2 ∷ []))
+    (read 1 12 ∷ read 2 12 ∷ [])
     (stateEntered 900 10 202 12 (arrived ∷ gone 2 12 ∷ [])))
     ∷ piece "one day: with an agreement, on a later day R is C"
     (leaves plain (stateWith 900 10 101 0 (arrives ∷ goes 2 ∷ [])) (read 1 12 ∷ read 2 13 ∷ [])

@@ -14,7 +14,8 @@ use Rattle.premise.specs.Orders.{inReview, permitPending, scheduled, can
 use Rattle.premise.specs.Passes.{codeOrder, codeMoveOut, codeScheduled, codeLosing, codeCancel, codePermit, codeUnexecutable}
 use Rattle.premise.specs.Passes.{codeReject}
 use Rattle.premise.specs.OnePremise.{State}
-use Rattle.premise.specs.Pieces.Forms.{Case, Piece, piece, tells, does, sent, nothing, state, stateEntered, stands, plain, with10, business}
+use Rattle.premise.specs.Pieces.Forms.{Case, Piece, piece, tells, does, sent, nothing, state, stateEntered, stands, plain, with10}
+use Rattle.premise.specs.Pieces.Forms.{business}
 use Rattle.premise.specs.Pieces.Forms.{create, retire, order, schedule, permit, unexecuted, read, cancel, reply}
 
 -- the older order: a move in, read on 4

@@ -11,7 +11,8 @@ use Rattle.premise.specs.Orders.{inReview, permitPending, scheduled, can
 use Rattle.premise.specs.FirstIn.{table}
 use Rattle.premise.specs.OnePremise.{State}
 use Rattle.premise.specs.Pieces.Forms.{Case, Piece, piece, answered, asked, numbered, nothing, state, stands, plain, business}
-use Rattle.premise.specs.Pieces.Forms.{create, retire, order, schedule, permit, unexecuted, read, cancel, reply, redate, establishes, deletes, mark}
+use Rattle.premise.specs.Pieces.Forms.{create, retire, order, schedule, permit, unexecuted, read, cancel, reply, redate, establishes}
+use Rattle.premise.specs.Pieces.Forms.{deletes, mark}
 
 -- a file with one order of 201, by K, SD and status; its reference is 1
 abbrev holding : ℕ → ℕ → ℕ → State

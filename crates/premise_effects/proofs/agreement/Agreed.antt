@@ -24,7 +24,8 @@ module _ (premise agreement named : ℕ) where
   pub no-earlier : not another ≡ true → toEarlierHolder premise agreement named ≡ []
   no-earlier e = rw (not-true another e)
 
-  pub an-earlier : not another ≡ false → toEarlierHolder premise agreement named ≡ noticeOfNoOrder codeAgreementRequest premise agreement ∷ []
+  pub an-earlier : not another ≡ false → toEarlierHolder premise agreement named ≡ noticeOfNoOrder codeAgreementRequest premise agreement
+      ∷ []
   an-earlier e = rw (not-false another e)
 
 -- ---- the file
@@ -72,5 +73,6 @@ module _ (f : File) (r : Record) where
         pub establish-done : (d : List ℕ) (sent : ℕ) → Writes told c d sent response
             → DoneToFile (agreed f r) standing (record { file = withAgreement f (r .retailer); sent = sent }) b d
         establish-done d sent v =
-            subst⁻¹ (λ (x : Effect). DoneToFile x standing (record { file = withAgreement f (r .retailer); sent = sent }) b d) (established n)
+            subst⁻¹ (λ (x : Effect). DoneToFile x standing (record { file = withAgreement f (r .retailer); sent = sent }) b d)
+            (established n)
             (record { file = refl; wrote = writes-then standing b request response both c told w d sent v })

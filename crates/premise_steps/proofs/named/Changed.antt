@@ -31,7 +31,8 @@ module _ (f : File) (r : Record) (o : Order) where
   pub supplied-ready : Tidy f → (i : ℕ) → i < f .count → (h : File) → h ≡ supplied f r o → Tidy h × (i < h .count)
   supplied-ready tidy i b h e =
       subst⁻¹ (λ (g : File). Tidy g × (i < g .count)) e
-      (supply-by (λ (g : File). Tidy g × (i < g .count)) (tidy, b) (λ retailer since entered. (tidy-supply f tidy retailer since entered, b)))
+      (supply-by (λ (g : File). Tidy g × (i < g .count)) (tidy, b)
+      (λ retailer since entered. (tidy-supply f tidy retailer since entered, b)))
 
 pub changed-tidy : (h : File) → Tidy h → (i : ℕ) (t : Order) (g : File) → g ≡ withOrders h (set (held h) i t) → Tidy g
 changed-tidy h tidy i t g e = subst⁻¹ Tidy e (tidy-set h tidy i t)

@@ -18,7 +18,8 @@ is-overtaken-requires c κs = search needs
 returns : tie.Need-returns
 returns c =
     let a = c .before .before .before .args in
-    c .is-overtaken .ensures ∙ changes-permit (a .today) (a .last) (a .file .agreement) (held (a .file)) (a .i) (a .o) (c .before .if1 .taken)
+    c .is-overtaken .ensures ∙ changes-permit (a .today) (a .last) (a .file .agreement) (held (a .file)) (a .i) (a .o)
+    (c .before .if1 .taken)
 
 is-due-requires : tie.Need-is-due-requires
 is-due-requires c κs = search needs
@@ -59,7 +60,8 @@ no-switch t answer said =
     let w = e .before in
     let a = w .before .before .before .args in
     said
-    ∙ changes-other (a .today) (a .last) (a .file .agreement) (held (a .file)) (a .i) (a .o) (w .before .if1 .left) (sym (w .is-due .ensures) ∙ e .if2 .left)
+    ∙ changes-other (a .today) (a .last) (a .file .agreement) (held (a .file)) (a .i) (a .o) (w .before .if1 .left)
+    (sym (w .is-due .ensures) ∙ e .if2 .left)
     (sym (t .before .is-switch .ensures) ∙ t .if3 .left)
 
 returns-4 : tie.Need-returns-4

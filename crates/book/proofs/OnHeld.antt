@@ -1,5 +1,5 @@
--- A record of kinds 3 to 9 or 11 on a premise whose file stands at a place of a well-kept book: the call is the one-premise rules' step on
--- that file, and stores the file that is left at that place. Assumes nothing.
+-- A record of kinds 3 to 9, 11 or 12 on a premise whose file stands at a place of a well-kept book: the call is the one-premise rules' step
+-- on that file, and stores the file that is left at that place. Assumes nothing.
 use Prim.Native.Nat.{ℕ, _≤_, _<_}
 use mathlib.Core.Path.{_≡_, sym, ap, subst, _∙_}
 use mathlib.Core.List.{List}

@@ -19,11 +19,11 @@ use Rattle.premise.specs.declared.Answer.the-variants.{NoSuchPremise, BookFull}
 use Rattle.premise.specs.Orders.{blankFile}
 use Rattle.premise.specs.WellKept.{FileKept}
 use Rattle.premise.specs.Steps.{is}
-use Rattle.premise.specs.Refusals.{Row, row, firstRow, isHeld, ordersOf, premiseRows, orderRows}
+use Rattle.premise.specs.Refusals.{Row, row, firstRow, isHeld, premiseRows, fileRows}
 use Rattle.premise.specs.OnePremise.{marked}
 use Rattle.premise.proofs.Table.{needs-file}
 use Rattle.book.specs.Book.{mostFiles, filesOf, bookOf, fileFor}
-use Rattle.book.specs.Calls.{recordRows, markedFiles, call, meetsRow6, onDayMark, asOne}
+use Rattle.book.specs.Calls.{recordRows, markedFiles, meetsRow6, onDayMark, asOne, callWith}
 use Rattle.book.specs.Laws.{numbersOf, CallMalformed, CallNotHeld, CallOnMark, MarkKeepsNumbers}
 use Rattle.book.proofs.Kept.{book-kept-means}
 use Rattle.book.proofs.Rows.{refusing, record-decides}
@@ -36,10 +36,10 @@ call-malformed calendar b bytes lent well room e =
 
 -- ---- a premise that is not held
 pub call-not-held : CallNotHeld
-unfolding call
+unfolding callWith
 call-not-held calendar b bytes lent r well room e needs absent =
     let full : Row = row BookFull (is kindCreate r && eqb (length (filesOf b)) mostFiles) in
-    let later : Option File → List Row = (λ file. full ∷ orderRows calendar (b .today) (ordersOf file) r) in
+    let later : Option File → List Row = (λ file. full ∷ fileRows calendar (b .today) file r) in
     ap (λ (first : Answer). decided calendar b first (reading bytes))
     (record-decides calendar b bytes lent room well ∙ ap (λ (d : Reading). firstRow (recordRows calendar b d)) e
     ∙ ap (λ (file : Option File). firstRow (premiseRows file r ++ later file)) absent ∙ needs-file r (later none) needs)

@@ -2,7 +2,7 @@
 use Prim.Native.Nat.{ℕ}
 use mathlib.Core.Path.{_≡_, refl, sym, _∙_}
 use mathlib.Core.Logic.{_↔_}
-use mathlib.Core.List.{List, [], _∷_, _++_}
+use mathlib.Core.List.{List, _∷_, _++_}
 use mathlib.Core.Option.{Option, none, some}
 use mathlib.Core.Bool.{Bool, true, false, not, _&&_, false≢true}
 use native.Mathlib.Omega.{arith}
@@ -16,7 +16,7 @@ use Rattle.records.specs.Records.{reading, kindCreate}
 use Rattle.premise.specs.declared.File.{File}
 use Rattle.premise.specs.declared.Answer.the-variants.{BookFull}
 use Rattle.premise.specs.Steps.{is}
-use Rattle.premise.specs.Refusals.{row, firstRow, isHeld, ordersOf, premiseRows, orderRows}
+use Rattle.premise.specs.Refusals.{row, firstRow, isHeld, premiseRows, fileRows}
 use Rattle.premise.proofs.Answers.{create-passes}
 use Rattle.premise.proofs.Table.{full-is-six, no-row-6}
 use Rattle.book.specs.declared.Book.{Book}
@@ -33,12 +33,12 @@ module _ (calendar : List ℕ) (b : Book) where
     where
       go : (file : Option File) → (is kindCreate r && not (isHeld file) && eqb (length (filesOf b)) mostFiles) ≡ true
           → firstRow (premiseRows file r
-          ++ (row BookFull (is kindCreate r && eqb (length (filesOf b)) mostFiles) ∷ orderRows calendar (b .today) (ordersOf file) r))
+          ++ (row BookFull (is kindCreate r && eqb (length (filesOf b)) mostFiles) ∷ fileRows calendar (b .today) file r))
           ≡ BookFull
       go none q =
           let creates = and-left (is kindCreate r) true (and-left (is kindCreate r && true) (eqb (length (filesOf b)) mostFiles) q) in
           let full = and-right (is kindCreate r && true) (eqb (length (filesOf b)) mostFiles) q in
-          create-passes r (row BookFull (is kindCreate r && eqb (length (filesOf b)) mostFiles) ∷ orderRows calendar (b .today) [] r)
+          create-passes r (row BookFull (is kindCreate r && eqb (length (filesOf b)) mostFiles) ∷ fileRows calendar (b .today) none r)
           creates
           ∙ rw (creates, full) refl
       go (some f) q = absurd

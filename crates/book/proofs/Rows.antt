@@ -20,13 +20,13 @@ use Rattle.premise.specs.declared.File.{File}
 use Rattle.premise.specs.declared.Answer.{Answer}
 use Rattle.premise.specs.declared.Answer.the-variants.{Accepted, ShortBuffer, NotWellKept, MalformedRecord, BookFull}
 use Rattle.premise.specs.Steps.{is}
-use Rattle.premise.specs.Refusals.{Row, row, firstRow, number, isHeld, ordersOf, premiseRows, orderRows, rows}
+use Rattle.premise.specs.Refusals.{Row, row, firstRow, number, isHeld, premiseRows, fileRows, rows}
 use Rattle.premise.proofs.Answers.{first-row-skips, answer-is-first-row, zero-where-no-row, holds}
 use Rattle.premise.proofs.Table.{accepted-is-zero, create-held}
 use Rattle.premise.proofs.Answer.{the-type}
 use Rattle.book.specs.declared.Book.{Book}
 use Rattle.book.specs.Book.{mostFiles, filesOf, bookKept, fileFor}
-use Rattle.book.specs.Calls.{noticeBytes, recordRows, callRows, premiseState, meetsRow6}
+use Rattle.book.specs.Calls.{noticeBytes, recordRows, callRows, premiseState, meetsRow6, callRowsWith}
 
 -- ---- which answers refuse
 abbrev pub Refuses : Answer → Type 0
@@ -85,16 +85,16 @@ module _ (calendar : List ℕ) (b : Book) where
   rows-of-one r e = go (is kindCreate r) (eqb (length (filesOf b)) mostFiles) (fileFor (r .premise) (filesOf b)) refl e
     where
       go : (creates full : Bool) (file : Option File) → is kindCreate r ≡ creates → (creates && not (isHeld file) && full) ≡ false
-          → firstRow (premiseRows file r ++ (row BookFull (creates && full) ∷ orderRows calendar (b .today) (ordersOf file) r))
+          → firstRow (premiseRows file r ++ (row BookFull (creates && full) ∷ fileRows calendar (b .today) file r))
           ≡ firstRow (rows calendar (b .today) file r)
       go false full file t e =
-          first-row-skips (premiseRows file r) (row BookFull false) (orderRows calendar (b .today) (ordersOf file) r) refl
+          first-row-skips (premiseRows file r) (row BookFull false) (fileRows calendar (b .today) file r) refl
       go true false file t e =
-          first-row-skips (premiseRows file r) (row BookFull false) (orderRows calendar (b .today) (ordersOf file) r) refl
+          first-row-skips (premiseRows file r) (row BookFull false) (fileRows calendar (b .today) file r) refl
       go true true none t e = absurd (false≢true (sym e))
       go true true (some f) t e =
-          create-held f r (row BookFull true ∷ orderRows calendar (b .today) (ordersOf (some f)) r) t
-          ∙ sym (create-held f r (orderRows calendar (b .today) (ordersOf (some f)) r) t)
+          create-held f r (row BookFull true ∷ fileRows calendar (b .today) (some f) r) t
+          ∙ sym (create-held f r (fileRows calendar (b .today) (some f) r) t)
 
   -- row 3 holds of malformed bytes
   pub not-malformed : anyOf holds (recordRows calendar b Malformed) ≡ false → ⊥
@@ -106,7 +106,7 @@ module _ (calendar : List ℕ) (b : Book) where
   not-full r e =
       let file : Option File = fileFor (r .premise) (filesOf b) in
       let full : Bool = is kindCreate r && eqb (length (filesOf b)) mostFiles in
-      none-holds (row MalformedRecord false ∷ premiseRows file r) (row BookFull full) (orderRows calendar (b .today) (ordersOf file) r) e
+      none-holds (row MalformedRecord false ∷ premiseRows file r) (row BookFull full) (fileRows calendar (b .today) file r) e
 
   record-exact : (d : Reading) → Exact (recordRows calendar b d)
   record-exact Malformed =
@@ -115,27 +115,27 @@ module _ (calendar : List ℕ) (b : Book) where
       let file : Option File = fileFor (r .premise) (filesOf b) in
       let law = zero-where-no-row calendar (premiseState b (r .premise)) r in
       let exact : Exact (rows calendar (b .today) file r) = rw (answer-is-first-row calendar (premiseState b (r .premise)) r) at law in
-      exact-insert (premiseRows file r) (orderRows calendar (b .today) (ordersOf file) r) BookFull
+      exact-insert (premiseRows file r) (fileRows calendar (b .today) file r) BookFull
       (is kindCreate r && eqb (length (filesOf b)) mostFiles) (refusing BookFull refl) exact
 
 module _ (calendar : List ℕ) (b : Book) (bytes lent : List ℕ) where
   -- with a long enough buffer and a well-kept book the first row is one of the record's
   pub record-decides : noticeBytes ≤ length lent → bookKept b ≡ true
       → firstRow (callRows calendar b bytes lent) ≡ firstRow (recordRows calendar b (reading bytes))
-  unfolding callRows
+  unfolding callRowsWith
   record-decides h k =
       ap₂ (λ (short kept : Bool). firstRow (row ShortBuffer short ∷ row NotWellKept (not kept) ∷ recordRows calendar b (reading bytes)))
       (le-ltb (length lent) noticeBytes h) k
 
   pub call-exact : Exact (callRows calendar b bytes lent)
-  unfolding callRows
+  unfolding callRowsWith
   call-exact =
       let rest : List Row = recordRows calendar b (reading bytes) in
       exact-cons ShortBuffer (ltb (length lent) noticeBytes) (row NotWellKept (not (bookKept b)) ∷ rest) (refusing ShortBuffer refl)
       (exact-cons NotWellKept (not (bookKept b)) rest (refusing NotWellKept refl) (record-exact calendar b (reading bytes)))
 
   pub passed : number (firstRow (callRows calendar b bytes lent)) ≡ 0 → FileAfter calendar b bytes lent
-  unfolding callRows
+  unfolding callRowsWith
   passed e =
       let short : Bool = ltb (length lent) noticeBytes in
       let unkept : Bool = not (bookKept b) in

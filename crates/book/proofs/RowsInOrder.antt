@@ -11,12 +11,13 @@ use Rattle.records.specs.Records.{reading, kindCreate}
 use Rattle.premise.specs.declared.Answer.{Answer}
 use Rattle.premise.specs.declared.Answer.the-variants.{ShortBuffer, NotWellKept, MalformedRecord, BookFull}
 use Rattle.premise.specs.Steps.{is}
-use Rattle.premise.specs.Refusals.{Row, row, firstRow, number, ordersOf, premiseRows, orderRows}
+use Rattle.premise.specs.Orders.{keptWidth}
+use Rattle.premise.specs.Refusals.{Row, row, firstRow, number, ordersOf, premiseRows, fileRows, widthIn}
 use Rattle.premise.specs.Laws.{rowNumbers}
 use Rattle.premise.proofs.Table.{premise-row-numbers, order-row-numbers, book-answers}
 use Rattle.book.specs.declared.Book.{Book}
 use Rattle.book.specs.Book.{mostFiles, filesOf, bookKept, fileFor}
-use Rattle.book.specs.Calls.{noticeBytes, recordRows, callRows, refusal, call}
+use Rattle.book.specs.Calls.{noticeBytes, recordRows, callRows, refusal, call, callRowsWith}
 use Rattle.book.specs.Laws.{RowsOfRecord, RowsOfMalformed, CallShort, CallNotKept}
 use Rattle.book.proofs.Rows.{refusing}
 use Rattle.book.proofs.CallAnswer.{call-refused}
@@ -37,7 +38,7 @@ full-is-6 = ap (λ (ns : List ℕ). getD ns 3 0) book-answers
 module _ (calendar : List ℕ) (b : Book) (bytes lent : List ℕ) where
   -- rows 1 and 2, and then the record's
   first-two : rowNumbers (callRows calendar b bytes lent) ≡ 1 ∷ 2 ∷ rowNumbers (recordRows calendar b (reading bytes))
-  unfolding callRows
+  unfolding callRowsWith
   first-two = ap₂ (λ (n m : ℕ). n ∷ m ∷ rowNumbers (recordRows calendar b (reading bytes))) short-is-1 unkept-is-2
 
 pub rows-of-malformed : RowsOfMalformed
@@ -49,11 +50,11 @@ pub rows-of-record : RowsOfRecord
 rows-of-record calendar b bytes lent r e =
     let file = fileFor (r .premise) (filesOf b) in
     let full : Row = row BookFull (is kindCreate r && eqb (length (filesOf b)) mostFiles) in
-    let later : List Row = orderRows calendar (b .today) (ordersOf file) r in
+    let later : List Row = fileRows calendar (b .today) file r in
     first-two calendar b bytes lent ∙ ap (λ (d : Reading). 1 ∷ 2 ∷ rowNumbers (recordRows calendar b d)) e
     ∙ ap₂ (λ (n : ℕ) (ns : List ℕ). 1 ∷ 2 ∷ n ∷ ns) malformed-is-3
     (map-append (λ (x : Row). number (x .answer)) (premiseRows file r) (full ∷ later)
-    ∙ ap₂ _++_ (premise-row-numbers file r) (ap₂ _∷_ full-is-6 (order-row-numbers calendar (b .today) (ordersOf file) r)))
+    ∙ ap₂ _++_ (premise-row-numbers file r) (ap₂ _∷_ full-is-6 (order-row-numbers (widthIn keptWidth file) calendar (b .today) (ordersOf file) r)))
 
 -- ---- rows 1 and 2 come first
 module _ (calendar : List ℕ) (b : Book) (bytes lent : List ℕ) where
@@ -64,14 +65,14 @@ module _ (calendar : List ℕ) (b : Book) (bytes lent : List ℕ) where
       call-refused calendar b bytes lent (λ z. n (sym (ap number e) ∙ z)) ∙ ap (λ (first : Answer). refusal first b) e
 
 pub call-short : CallShort
-unfolding callRows
+unfolding callRowsWith
 call-short calendar b bytes lent h =
     refused-by calendar b bytes lent ShortBuffer (refusing ShortBuffer refl)
     (ap (λ (short : Bool). firstRow (row ShortBuffer short ∷ row NotWellKept (not (bookKept b)) ∷ recordRows calendar b (reading bytes)))
     (lt-ltb (length lent) noticeBytes h))
 
 pub call-not-kept : CallNotKept
-unfolding callRows
+unfolding callRowsWith
 call-not-kept calendar b bytes lent h k =
     refused-by calendar b bytes lent NotWellKept (refusing NotWellKept refl)
     (ap₂ (λ (short kept : Bool). firstRow (row ShortBuffer short ∷ row NotWellKept (not kept) ∷ recordRows calendar b (reading bytes)))

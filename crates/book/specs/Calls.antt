@@ -13,9 +13,10 @@ use Rattle.records.specs.Records.{reading, kindCreate, kindDayMark}
 use Rattle.premise.specs.declared.File.{File}
 use Rattle.premise.specs.declared.Answer.{Answer}
 use Rattle.premise.specs.declared.Answer.the-variants.{Accepted, ShortBuffer, NotWellKept, MalformedRecord, BookFull, NotNextDay}
+use Rattle.premise.specs.Orders.{keptWidth}
 use Rattle.premise.specs.Steps.{is}
-use Rattle.premise.specs.Refusals.{Row, row, firstRow, number, isHeld, ordersOf, premiseRows, orderRows}
-use Rattle.premise.specs.OnePremise.{State, Given, marked, step}
+use Rattle.premise.specs.Refusals.{Row, row, firstRow, number, isHeld, premiseRows, fileRowsWith}
+use Rattle.premise.specs.OnePremise.{State, Given, markedWith, stepWith, step}
 use Rattle.book.specs.declared.Book.{Book}
 use Rattle.book.specs.Book.{mostFiles, filesOf, bookOf, bookKept, fileFor, withFile}
 
@@ -25,20 +26,26 @@ noticeBytes = 24576
 
 -- ---- the table
 -- rows 3 to 15, with 18 after 4, 26 between 11 and 12 and 16 and 17 after 14, by what the record's bytes say
-abbrev pub recordRows : List ℕ → Book → Reading → List Row
-recordRows calendar b Malformed = row MalformedRecord true ∷ []
-recordRows calendar b (Says r) =
+abbrev pub recordRowsWith : (File → ℕ) → List ℕ → Book → Reading → List Row
+recordRowsWith width calendar b Malformed = row MalformedRecord true ∷ []
+recordRowsWith width calendar b (Says r) =
     row MalformedRecord false
     ∷ premiseRows (fileFor (r .premise) (filesOf b)) r
     ++ (row BookFull (is kindCreate r && eqb (length (filesOf b)) mostFiles)
-    ∷ orderRows calendar (b .today) (ordersOf (fileFor (r .premise) (filesOf b))) r)
+    ∷ fileRowsWith width calendar (b .today) (fileFor (r .premise) (filesOf b)) r)
+
+abbrev pub recordRows : List ℕ → Book → Reading → List Row
+recordRows = recordRowsWith keptWidth
 
 -- the whole table, in its order
-unfoldable pub callRows : List ℕ → Book → List ℕ → List ℕ → List Row
-callRows calendar b bytes lent =
+unfoldable pub callRowsWith : (File → ℕ) → List ℕ → Book → List ℕ → List ℕ → List Row
+callRowsWith width calendar b bytes lent =
     row ShortBuffer (ltb (length lent) noticeBytes)
     ∷ row NotWellKept (not (bookKept b))
-    ∷ recordRows calendar b (reading bytes)
+    ∷ recordRowsWith width calendar b (reading bytes)
+
+abbrev pub callRows : List ℕ → Book → List ℕ → List ℕ → List Row
+callRows = callRowsWith keptWidth
 
 -- A well-formed create of a premise that is not held, while 64 files are held, meets row 6. `AnsweredFull` (Laws.antt) ties it to the
 -- table.
@@ -54,47 +61,68 @@ pub record Result : Type 0 where
   pub book : Book
 
 -- A day mark: T becomes the day; each file in rising P does the clock, then the evaluation.
+abbrev pub markedFilesWith : (File → ℕ) → List ℕ → ℕ → List File → List File
+markedFilesWith width calendar day fs = map (λ (f : File). markedWith width calendar day f .file) fs
+
 abbrev pub markedFiles : List ℕ → ℕ → List File → List File
-markedFiles calendar day fs = map (λ (f : File). marked calendar day f .file) fs
+markedFiles = markedFilesWith keptWidth
+
+abbrev pub markedNoticesWith : (File → ℕ) → List ℕ → ℕ → List File → List Notice
+markedNoticesWith width calendar day [] = []
+markedNoticesWith width calendar day (f ∷ fs) = markedWith width calendar day f .notices ++ markedNoticesWith width calendar day fs
 
 abbrev pub markedNotices : List ℕ → ℕ → List File → List Notice
-markedNotices calendar day [] = []
-markedNotices calendar day (f ∷ fs) = marked calendar day f .notices ++ markedNotices calendar day fs
+markedNotices = markedNoticesWith keptWidth
 
-abbrev pub markedBook : List ℕ → Book → ℕ → Result
-markedBook calendar b day =
+abbrev pub markedBookWith : (File → ℕ) → List ℕ → Book → ℕ → Result
+markedBookWith width calendar b day =
     record {
       answer = Accepted;
-      notices = markedNotices calendar day (filesOf b);
-      book = bookOf day (markedFiles calendar day (filesOf b));
+      notices = markedNoticesWith width calendar day (filesOf b);
+      book = bookOf day (markedFilesWith width calendar day (filesOf b));
     }
+
+abbrev pub markedBook : List ℕ → Book → ℕ → Result
+markedBook = markedBookWith keptWidth
 
 -- Any other record goes to its premise: the one-premise rules on T and that file or none.
 abbrev pub premiseState : Book → ℕ → State
 premiseState b premise = record { today = b .today; file = fileFor premise (filesOf b) }
 
-abbrev pub onPremise : List ℕ → Book → Record → Result
-onPremise calendar b r =
+abbrev pub onPremiseWith : (File → ℕ) → List ℕ → Book → Record → Result
+onPremiseWith width calendar b r =
     record {
       answer = Accepted;
-      notices = step calendar (premiseState b (r .premise)) r .notices;
-      book = bookOf (b .today) (withFile (r .premise) (step calendar (premiseState b (r .premise)) r .state .file) (filesOf b));
+      notices = stepWith width calendar (premiseState b (r .premise)) r .notices;
+      book =
+          bookOf (b .today) (withFile (r .premise) (stepWith width calendar (premiseState b (r .premise)) r .state .file) (filesOf b));
     }
 
+abbrev pub onPremise : List ℕ → Book → Record → Result
+onPremise = onPremiseWith keptWidth
+
+abbrev pub onReadingWith : (File → ℕ) → List ℕ → Book → Reading → Result
+onReadingWith width calendar b Malformed = record { answer = MalformedRecord; notices = []; book = b }
+onReadingWith width calendar b (Says r) =
+    cond (is kindDayMark r) (markedBookWith width calendar b (r .day)) (onPremiseWith width calendar b r)
+
 abbrev pub onReading : List ℕ → Book → Reading → Result
-onReading calendar b Malformed = record { answer = MalformedRecord; notices = []; book = b }
-onReading calendar b (Says r) = cond (is kindDayMark r) (markedBook calendar b (r .day)) (onPremise calendar b r)
+onReading = onReadingWith keptWidth
 
 -- ---- the call
 -- A refusal returns its number and zero notices; book and buffer stay.
 abbrev pub refusal : Answer → Book → Result
 refusal answer b = record { answer = answer; notices = []; book = b }
 
-unfoldable pub call : List ℕ → Book → List ℕ → List ℕ → Result
-call calendar b bytes lent =
-    cond (eqb (number (firstRow (callRows calendar b bytes lent))) 0)
-    (onReading calendar b (reading bytes))
-    (refusal (firstRow (callRows calendar b bytes lent)) b)
+unfoldable pub callWith : (File → ℕ) → List ℕ → Book → List ℕ → List ℕ → Result
+callWith width calendar b bytes lent =
+    cond (eqb (number (firstRow (callRowsWith width calendar b bytes lent))) 0)
+    (onReadingWith width calendar b (reading bytes))
+    (refusal (firstRow (callRowsWith width calendar b bytes lent)) b)
+
+-- The rules in force: each file has the width that it keeps.
+abbrev pub call : List ℕ → Book → List ℕ → List ℕ → Result
+call = callWith keptWidth
 
 -- ---- what a call comes to on a well-kept book with a long enough buffer, by what its record is; proofs/Acts.antt proves it
 -- a day mark: row 15, then the mark

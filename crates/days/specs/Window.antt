@@ -15,9 +15,12 @@ countFrom calendar (suc many) day = cond (isBusinessDay calendar day) 1 0 + coun
 unfoldable pub businessDays : List ℕ → ℕ → ℕ → ℕ
 businessDays calendar from to = countFrom calendar (to - from) from
 
--- Two business days: the width that document 01 has throughout.
+-- Two business days: the width that document 01 has throughout. Document 02, change 2: "1 to 5 business days, and 0 means 2".
 abbrev pub windowWidth : ℕ
 windowWidth = 2
+
+abbrev pub mostWidth : ℕ
+mostWidth = 5
 
 -- In window: the scheduled day is a day, and at most width business days d have today ≤ d < scheduled.
 unfoldable pub inWindow : List ℕ → ℕ → ℕ → ℕ → Bool

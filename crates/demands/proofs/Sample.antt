@@ -20,9 +20,9 @@ use Rattle.premise.specs.Evaluation.{permitOvertaken, isDue, lossNotice, evalua
 use Rattle.premise.specs.FirstIn.{refuses, standsInWay, notFirstIn}
 use Rattle.premise.specs.WellKept.{orderKept, isBlank, fileKept, fileBlank}
 use Rattle.premise.specs.Refusals.{number, premiseRows, orderRows}
-use Rattle.premise.specs.OnePremise.{marked, stepped, step}
+use Rattle.premise.specs.OnePremise.{marked, stepped, step, markedWith, stepWith, steppedWith}
 use Rattle.book.specs.Book.{bookOf, bookKept, fileFor, putIn, takenOut}
-use Rattle.book.specs.Calls.{callRows, call}
+use Rattle.book.specs.Calls.{callRows, call, callRowsWith, callWith}
 use Rattle.demands.specs.Demand3.{SameBooks}
 use Rattle.demands.specs.Tapes.{ownOf}
 use Rattle.demands.proofs.Demand3.{demand-3}
@@ -35,11 +35,11 @@ use Rattle.demands.specs.Sample.{ordered5, changed5, dated5, losing5, bu
 -- ---- the sample
 pub comes : Comes
 unfolding reviewed permitAwaited cancelAwaited ticked contends switchOfDay givesWay sameDaySwitch isDisplaced dropOnSwitchDay isOvertaken
-    permitOvertaken isDue lossNotice evaluation refuses standsInWay notFirstIn marked stepped step places number premiseRows orderRows
+    permitOvertaken isDue lossNotice evaluation refuses standsInWay notFirstIn markedWith steppedWith stepWith places number premiseRows orderRows
     requestedDay makeRoom ordered taken onScheduled onPermit onUnexecutable onRead supplied onCancel onReply onOrder onDateChange onNamed
     changed agreed orderKept isBlank fileKept fileBlank fieldOf encode wellFormed reading kindOfDay isBusinessDay switchDate businessDays
     inWindow
-    bookOf bookKept fileFor putIn takenOut callRows call lent made plays create7 create5 order7 order5 change5 establish7 scheduled7
+    bookOf bookKept fileFor putIn takenOut callRowsWith callWith lent made plays create7 create5 order7 order5 change5 establish7 scheduled7
     scheduled5 mark1 malformed calendar tape sample shuffled again ordered7 agreed7 dated7 losing7 ordered5 changed5 dated5 losing5 buffers
 comes = record {
   answers7 = refl;

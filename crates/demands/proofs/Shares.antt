@@ -21,7 +21,7 @@ use Rattle.premise_laws.proofs.KeptPasses.{mark-keeps-shares}
 use Rattle.premise_laws.proofs.KeptSteps.{step-keeps-shares}
 use Rattle.book.specs.declared.Book.{Book}
 use Rattle.book.specs.Book.{filesOf, freshBook, fileFor, withFile}
-use Rattle.book.specs.Calls.{recordRows, callRows, premiseState, markedFiles, call}
+use Rattle.book.specs.Calls.{recordRows, callRows, premiseState, markedFiles, call, callRowsWith}
 use Rattle.book.proofs.Files.{found-has}
 use Rattle.book.proofs.SameFiles.{with-each}
 use Rattle.book.proofs.Kept.{holds-its-files, book-kept-means}
@@ -77,7 +77,7 @@ no-retailer-fills calendar start ms p retailer =
 rows-from-26 : (calendar : List ℕ) (b : Book) (bytes lent : List ℕ) (r : Record) → reading bytes ≡ Says r
     → fromRow 26 (callRows calendar b bytes lent)
     ≡ fromRow 26 (orderRows calendar (b .today) (ordersOf (fileFor (r .premise) (filesOf b))) r)
-unfolding callRows number
+unfolding callRowsWith number
 rows-from-26 calendar b bytes lent r e =
     let file : Option File = fileFor (r .premise) (filesOf b) in
     ap (λ (d : Reading). fromRow 26 (recordRows calendar b d)) e

@@ -19,9 +19,9 @@ use Rattle.premise.specs.Evaluation.{permitOvertaken, isDue, lossNotice, evalua
 use Rattle.premise.specs.FirstIn.{refuses, standsInWay, notFirstIn}
 use Rattle.premise.specs.WellKept.{orderKept, isBlank, fileKept, fileBlank}
 use Rattle.premise.specs.Refusals.{number, premiseRows, orderRows}
-use Rattle.premise.specs.OnePremise.{marked, stepped, step}
+use Rattle.premise.specs.OnePremise.{marked, stepped, step, markedWith, stepWith, steppedWith}
 use Rattle.book.specs.Book.{bookOf, bookKept, filesOf, freshBook, fileFor, putIn, takenOut}
-use Rattle.book.specs.Calls.{callRows, call}
+use Rattle.book.specs.Calls.{callRows, call, callRowsWith, callWith}
 use Rattle.demands.specs.Demand3.{Made, lastBook}
 use Rattle.demands.specs.Sample.{lent, made, plays}
 use Rattle.demands.specs.LastDay.{create7}
@@ -31,11 +31,11 @@ use Rattle.demands.proofs.Shares.{no-retailer-fills, room-for-others}
 
 pub comes : Comes
 unfolding reviewed permitAwaited cancelAwaited ticked contends switchOfDay givesWay sameDaySwitch isDisplaced dropOnSwitchDay isOvertaken
-    permitOvertaken isDue lossNotice evaluation refuses standsInWay notFirstIn marked stepped step places number premiseRows orderRows
+    permitOvertaken isDue lossNotice evaluation refuses standsInWay notFirstIn markedWith steppedWith stepWith places number premiseRows orderRows
     requestedDay makeRoom ordered taken onScheduled onPermit onUnexecutable onRead supplied onCancel onReply onOrder onDateChange onNamed
     changed agreed orderKept isBlank fileKept fileBlank fieldOf encode wellFormed reading kindOfDay isBusinessDay switchDate businessDays
     inWindow
-    bookOf bookKept fileFor putIn takenOut callRows call lent made plays create7 dropOf beginning tape sample third dropped file7 found
+    bookOf bookKept fileFor putIn takenOut callRowsWith callWith lent made plays create7 dropOf beginning tape sample third dropped file7 found
 comes = record {
   answered = refl;
   shares = refl;

@@ -19,7 +19,7 @@ use Rattle.premise.specs.declared.Answer.the-variants.{NotFirstIn, Retai
 use Rattle.premise.specs.declared.Answer.the-variants.{CounterNotAbove, OrderInWindow, NotNextDay}
 use Rattle.premise.specs.Steps.{is}
 use Rattle.premise.specs.Refusals.{Row, number, firstRow, rows, isHeld, premiseRows, orderRows}
-use Rattle.premise.specs.OnePremise.{State, Given, effectOn, decide, refused, step}
+use Rattle.premise.specs.OnePremise.{State, Given, effectOn, decide, refused, stepWith}
 use Rattle.premise.specs.Laws.{AnswerIsFirstRow, ZeroWhereNoRow, RefusalIs, RefusalChangesNothing, CreatePasses, OnlyMarksMove}
 use Rattle.premise.specs.Laws.{MarkStep, OnlyCreateMakes, OnlyRetireTakes, markedOr}
 use Rattle.lists.proofs.TestLaws.{by-test, and-left, and-right}
@@ -93,7 +93,7 @@ effect-accepted calendar today (some f) r =
     by-test Accepts (is kindRetire r) _ _ (λ e. refl) (λ e. by-test Accepts (is kindDayMark r) _ _ (λ e. refl) (λ e. refl))
 
 pub answer-is-first-row : AnswerIsFirstRow
-unfolding step
+unfolding stepWith
 answer-is-first-row calendar s r =
     decided (firstRow (rows calendar (s .today) (s .file) r)) _ s (effect-accepted calendar (s .today) (s .file) r)
 
@@ -103,7 +103,7 @@ zero-where-no-row calendar s r =
     (zero-none _ _ (zero-first (rows calendar (s .today) (s .file) r) (all-refuse calendar (s .today) (s .file) r)))
 
 pub refusal-is : RefusalIs
-unfolding step
+unfolding stepWith
 refusal-is calendar s r h =
     let answer : Answer = firstRow (rows calendar (s .today) (s .file) r) in
     let e : eqb (number answer) 0 ≡ false = rw (answer-is-first-row calendar s r) at h in
@@ -129,18 +129,18 @@ effect-stays calendar today (some f) r h =
     by-test (λ (g : Given). g .state .today ≡ today) (is kindRetire r) _ _ (λ e. refl) (λ e. rw h refl)
 
 pub only-marks-move : OnlyMarksMove
-unfolding step
+unfolding stepWith
 only-marks-move calendar s r h =
     either (λ g. g .state .today ≡ s .today) (firstRow (rows calendar (s .today) (s .file) r)) s
     (effect-stays calendar (s .today) (s .file) r h) refl
 
 pub only-create-makes : OnlyCreateMakes
-unfolding step
+unfolding stepWith
 only-create-makes calendar today r h =
     either (λ g. g .state .file ≡ none) (firstRow (rows calendar today none r)) (record { today = today; file = none }) (rw h refl) refl
 
 pub only-retire-takes : OnlyRetireTakes
-unfolding step
+unfolding stepWith
 only-retire-takes calendar today f r h =
     either (λ g. isHeld (g .state .file) ≡ true) (firstRow (rows calendar today (some f) r)) (record { today = today; file = some f })
     (rw h (by-test (λ (g : Given). isHeld (g .state .file) ≡ true) (is kindDayMark r) _ _ (λ e. refl) (λ e. refl))) refl
@@ -157,7 +157,7 @@ mark-effect calendar today none r e = rw e refl
 mark-effect calendar today (some f) r e = rw e refl
 
 pub mark-step : MarkStep
-unfolding step number
+unfolding stepWith number
 mark-step calendar s r h =
     rw (
       mark-rows calendar (s .today) (s .file) r (eqb-true (r .kind) kindDayMark h),

@@ -47,18 +47,18 @@ blank-means f = (to, λ e. rw e)
     to h =
         let k =
         pass-each (eqb (f .premise) 0)
-        (eqb (f .retailer) 0 ∷ eqb (f .since) 0 ∷ eqb (f .agreement) 0 ∷ eqb (f .entered) 0 ∷ eqb (f .count) 0 ∷ eqb
-        (length (f .orders)) mostOrders
+        (eqb (f .retailer) 0 ∷ eqb (f .since) 0 ∷ eqb (f .window) 0 ∷ eqb (f .agreement) 0 ∷ eqb (f .entered) 0 ∷ eqb (f .count) 0 ∷ eqb (length (f .orders)) mostOrders
         ∷ allOf isBlank (f .orders) ∷ []) h in
-        let long = eqb-true (length (f .orders)) mostOrders (k .1 .1 .1 .1 .1 .1 .0) in
-        let orders = all-are isBlank blank blank-is (f .orders) (k .1 .1 .1 .1 .1 .1 .1 .0) ∙ ap (λ (n : ℕ). replicate n blank) long in
+        let long = eqb-true (length (f .orders)) mostOrders (k .1 .1 .1 .1 .1 .1 .1 .0) in
+        let orders = all-are isBlank blank blank-is (f .orders) (k .1 .1 .1 .1 .1 .1 .1 .1 .0) ∙ ap (λ (n : ℕ). replicate n blank) long in
         λ i.
         record {
           premise = eqb-true (f .premise) 0 (k .0) i;
           retailer = eqb-true (f .retailer) 0 (k .1 .0) i;
           since = eqb-true (f .since) 0 (k .1 .1 .0) i;
-          agreement = eqb-true (f .agreement) 0 (k .1 .1 .1 .0) i;
-          entered = eqb-true (f .entered) 0 (k .1 .1 .1 .1 .0) i;
-          count = eqb-true (f .count) 0 (k .1 .1 .1 .1 .1 .0) i;
+          window = eqb-true (f .window) 0 (k .1 .1 .1 .0) i;
+          agreement = eqb-true (f .agreement) 0 (k .1 .1 .1 .1 .0) i;
+          entered = eqb-true (f .entered) 0 (k .1 .1 .1 .1 .1 .0) i;
+          count = eqb-true (f .count) 0 (k .1 .1 .1 .1 .1 .1 .0) i;
           orders = orders i;
         }

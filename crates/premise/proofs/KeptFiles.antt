@@ -2,7 +2,7 @@
 use Prim.Native.Nat.{ℕ, _-_, _≤_}
 use mathlib.Core.Path.{_≡_, sym, ap, _∙_}
 use mathlib.Core.List.{List, [], _∷_, _++_}
-use mathlib.Core.Bool.{Bool, true}
+use mathlib.Core.Bool.{Bool, true, _&&_}
 use native.Mathlib.Omega.{arith}
 use lib.Dec.{eqb, leb}
 use lib.ListN.{length, drop, replicate, take-append-drop, length-append, length-take, length-drop, length-replicate}
@@ -12,6 +12,7 @@ use Rattle.lists.specs.Search.{allOf}
 use Rattle.lists.proofs.TestLaws.{pass-each, each-pass}
 use Rattle.lists.proofs.SearchLaws.{all-are, all-same}
 use Rattle.days.specs.Days.{isDay}
+use Rattle.days.specs.Window.{mostWidth}
 use Rattle.records.specs.Records.{aPremise, aRetailerOrNone}
 use Rattle.premise.specs.declared.Order.{Order}
 use Rattle.premise.specs.declared.File.{File}
@@ -68,6 +69,7 @@ abbrev tests : File → List Bool
 tests f =
     aRetailerOrNone (f .retailer)
     ∷ isDay (f .since)
+    ∷ (leb 1 (f .window) && leb (f .window) mostWidth)
     ∷ aRetailerOrNone (f .agreement)
     ∷ leb (f .entered) 1
     ∷ leb (f .count) mostOrders
@@ -81,17 +83,18 @@ file-facts : (f : File) → fileKept f ≡ true → FileKept f
 unfolding fileKept
 file-facts f h =
     let k = pass-each (aPremise (f .premise)) (tests f) h in
-    let few = leb-true (f .count) mostOrders (k .1 .1 .1 .1 .1 .0) in
-    let long = eqb-true (length (f .orders)) mostOrders (k .1 .1 .1 .1 .1 .1 .0) in
+    let few = leb-true (f .count) mostOrders (k .1 .1 .1 .1 .1 .1 .0) in
+    let long = eqb-true (length (f .orders)) mostOrders (k .1 .1 .1 .1 .1 .1 .1 .0) in
     record {
       premise = k .0;
       retailer = k .1 .0;
       since = k .1 .1 .0;
-      agreement = k .1 .1 .1 .0;
-      entered = k .1 .1 .1 .1 .0;
-      orders = k .1 .1 .1 .1 .1 .1 .1 .0;
-      references = k .1 .1 .1 .1 .1 .1 .1 .1 .0;
-      tidy = record { few = few; whole = whole-of f few long (k .1 .1 .1 .1 .1 .1 .1 .1 .1 .0) };
+      window = k .1 .1 .1 .0;
+      agreement = k .1 .1 .1 .1 .0;
+      entered = k .1 .1 .1 .1 .1 .0;
+      orders = k .1 .1 .1 .1 .1 .1 .1 .1 .0;
+      references = k .1 .1 .1 .1 .1 .1 .1 .1 .1 .0;
+      tidy = record { few = few; whole = whole-of f few long (k .1 .1 .1 .1 .1 .1 .1 .1 .1 .1 .0) };
     }
 
 file-test : (f : File) → FileKept f → fileKept f ≡ true
@@ -101,7 +104,7 @@ file-test f k =
     let long = eq-eqb (length (f .orders)) mostOrders (length-orders f (k .tidy)) in
     let unused = ap (allOf isBlank) (unused-of f (k .tidy)) ∙ all-same isBlank blank blank-passes (mostOrders - length (held f)) in
     each-pass (aPremise (f .premise)) (tests f)
-    (k .premise, (k .retailer, (k .since, (k .agreement, (k .entered, (few, (long, (k .orders, (k .references, (unused, tt))))))))))
+    (k .premise, (k .retailer, (k .since, (k .window, (k .agreement, (k .entered, (few, (long, (k .orders, (k .references, (unused, tt)))))))))))
 
 pub kept-means : KeptMeans
 kept-means f = (file-facts f, file-test f)

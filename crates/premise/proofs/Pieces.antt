@@ -9,6 +9,7 @@ use Rattle.premise.specs.Pieces.Clock.{reviewsEnd, permitsEnd, cancelsEn
 use Rattle.premise.specs.Pieces.Evaluation.{sameDay, drops, overtaken, losing}
 use Rattle.premise.specs.Pieces.Agreements.{agreements, agreementsTold, agreementsOnTape}
 use Rattle.premise.specs.Pieces.OneDay.{oneDay}
+use Rattle.premise.specs.Pieces.Windows.{windows}
 use Rattle.premise.specs.Pieces.DateChange.{redates, redatedOnTape, redatesRefused}
 use Rattle.premise.specs.Pieces.Refusals.{firstIn, statuses, premises, dayLimits, stacks, shares}
 use Rattle.premise.specs.Pieces.Kept.{keptOrders, keptFiles, numbers}
@@ -160,6 +161,10 @@ oneDay-hold : Hold oneDay
 unfolding failed oneDay
 oneDay-hold = record { none = refl }
 
+windows-hold : Hold windows
+unfolding failed windows
+windows-hold = record { none = refl }
+
 keptOrders-hold : Hold keptOrders
 unfolding failed keptOrders
 keptOrders-hold = record { none = refl }
@@ -176,7 +181,5 @@ pub set-pieces : failed pieces ≡ []
 set-pieces = (limits-hold also reviews-hold also permits-hold also switches-hold also tape-hold also created-hold also ordered-hold also
     scheduledOrPermitted-hold also unexecuteds-hold also readings-hold also cancels-hold also evaluations-hold also reviewsEnd-hold also
     permitsEnd-hold also cancelsEnd-hold also sameDay-hold also drops-hold also overtaken-hold also losing-hold also firstIn-hold also
-    statuses-hold also premises-hold also dayLimits-hold also stacks-hold also shares-hold also redates-hold also redatedOnTape-hold
-    also redatesRefused-hold also agreements-hold also agreementsTold-hold also agreementsOnTape-hold also oneDay-hold also keptOrders-hold
-    also keptFiles-hold also
+    statuses-hold also premises-hold also dayLimits-hold also stacks-hold also shares-hold also redates-hold also redatedOnTape-hold also redatesRefused-hold also agreements-hold also agreementsTold-hold also agreementsOnTape-hold also oneDay-hold also windows-hold also keptOrders-hold also keptFiles-hold also
     numbers-hold) .none

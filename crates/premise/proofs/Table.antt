@@ -71,7 +71,7 @@ premise-row-numbers file r = refl
 
 pub order-row-numbers : OrderRowNumbers
 unfolding number orderRows
-order-row-numbers calendar today os r = refl
+order-row-numbers width calendar today os r = refl
 
 pub book-answers : BookAnswers
 unfolding number
@@ -127,7 +127,7 @@ none-in-all n (x ∷ rs) h k = go (eqb (number (x .answer)) n) h k (none-in-all 
 
 pub room-from-26 : RoomFrom26
 unfolding number orderRows
-room-from-26 calendar today os r e own all =
+room-from-26 width calendar today os r e own all =
     rw (
       eqb-true (r .kind) kindNewOrder e,
       lt-leb mostOfOne (openOf (r .retailer) os) own,

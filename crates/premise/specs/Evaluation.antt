@@ -6,13 +6,13 @@ use mathlib.Core.Bool.{Bool, cond, not, _&&_, _||_}
 use lib.Dec.{eqb, leb, ltb}
 use Rattle.lists.specs.Search.{anyOf, placeOf, isAt, orElse}
 use Rattle.lists.specs.declared.Found.{Found}
-use Rattle.days.specs.Window.{windowWidth, inWindow}
+use Rattle.days.specs.Window.{inWindow}
 use Rattle.records.specs.Notices.{tdsp}
 use Rattle.records.specs.Records.{moveIn, moveOut, massTransitionDrop}
 use Rattle.premise.specs.declared.Order.{Order}
 use Rattle.premise.specs.declared.File.{File}
 use Rattle.premise.specs.Orders.{permitPending, scheduled, cancelPending, hasStatus, hasKind, isSwitch, noRetailer, asCancelled}
-use Rattle.premise.specs.Orders.{withTold, held}
+use Rattle.premise.specs.Orders.{withTold, held, keptWidth}
 use Rattle.premise.specs.Passes.{Change, Outcome, Effect, same, cancelling, notice, pass, andThen, onFile, codeLosing, codeCancel}
 use Rattle.premise.specs.Passes.{codeAgreementMoveIn}
 
@@ -113,6 +113,10 @@ evaluation near today f os =
 abbrev pub evaluatedBy : (ℕ → Bool) → ℕ → File → Effect
 evaluatedBy near today f = onFile f (evaluation near today f (held f))
 
--- The evaluation of a file. In window: SD is a day, and at most two business days d have T ≤ d < SD.
+-- The evaluation of a file. In window: SD is a day, and at most two business days d have T ≤ d < SD. Document 02, change 2: "Evaluation and
+-- date change follow that width."
+abbrev pub evaluatedWith : (File → ℕ) → List ℕ → ℕ → File → Effect
+evaluatedWith width calendar today f = evaluatedBy (inWindow calendar (width f) today) today f
+
 abbrev pub evaluated : List ℕ → ℕ → File → Effect
-evaluated calendar today f = evaluatedBy (inWindow calendar windowWidth today) today f
+evaluated = evaluatedWith keptWidth

@@ -70,8 +70,8 @@ PremiseRowNumbers = (file : Option File) (r : Record) → rowNumbers (premiseRow
 
 abbrev pub OrderRowNumbers : Type 0
 OrderRowNumbers =
-    (calendar : List ℕ) (today : ℕ) (os : List Order) (r : Record)
-    → rowNumbers (orderRows calendar today os r) ≡ 7 ∷ 8 ∷ 9 ∷ 10 ∷ 11 ∷ 26 ∷ 12 ∷ 13 ∷ 14 ∷ 16 ∷ 17 ∷ 15 ∷ []
+    (width : ℕ) (calendar : List ℕ) (today : ℕ) (os : List Order) (r : Record)
+    → rowNumbers (orderRows width calendar today os r) ≡ 7 ∷ 8 ∷ 9 ∷ 10 ∷ 11 ∷ 26 ∷ 12 ∷ 13 ∷ 14 ∷ 16 ∷ 17 ∷ 15 ∷ []
 
 -- .. and of the answers that the book's own rows give.
 abbrev pub BookAnswers : Type 0
@@ -80,9 +80,9 @@ BookAnswers = map number (ShortBuffer ∷ NotWellKept ∷ MalformedRecord ∷ Bo
 -- From 26 on none holds for a new order where fewer than 8 orders are open, and fewer than 4 of them its Q's.
 abbrev pub RoomFrom26 : Type 0
 RoomFrom26 =
-    (calendar : List ℕ) (today : ℕ) (os : List Order) (r : Record) → is kindNewOrder r ≡ true
+    (width : ℕ) (calendar : List ℕ) (today : ℕ) (os : List Order) (r : Record) → is kindNewOrder r ≡ true
     → openOf (r .retailer) os < mostOfOne → countOf isOpen os < mostOrders
-    → anyOf (λ (x : Row). x .when) (fromRow 26 (orderRows calendar today os r)) ≡ false
+    → anyOf (λ (x : Row). x .when) (fromRow 26 (orderRows width calendar today os r)) ≡ false
 
 -- of all answers only a full book has the number 6, and the one-premise rules have no such row
 abbrev pub FullIsSix : Type 0

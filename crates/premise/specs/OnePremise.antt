@@ -14,12 +14,12 @@ use Rattle.premise.specs.declared.Answer.{Answer}
 use Rattle.premise.specs.declared.Answer.the-variants.{Accepted}
 use Rattle.lists.specs.declared.Found.{Found}
 use Rattle.lists.specs.declared.Found.the-variants.{At, Nothing}
-use Rattle.premise.specs.Orders.{held}
+use Rattle.premise.specs.Orders.{held, keptWidth}
 use Rattle.premise.specs.Passes.{Effect, onFile}
 use Rattle.premise.specs.Steps.{is, newFile, ordered, named, orderAt, changed, agreed}
 use Rattle.premise.specs.Clock.{clock}
-use Rattle.premise.specs.Evaluation.{evaluated}
-use Rattle.premise.specs.Refusals.{number, rows, firstRow}
+use Rattle.premise.specs.Evaluation.{evaluatedWith}
+use Rattle.premise.specs.Refusals.{number, rowsWith, firstRow}
 
 -- T, and a file or none
 pub record State : Type 0 where
@@ -41,8 +41,11 @@ abbrev pub followed : Effect → (File → Effect) → Effect
 followed first next = record { file = next (first .file) .file; notices = first .notices ++ next (first .file) .notices }
 
 -- the day mark on a file: the clock, then the evaluation, by the new T
-unfoldable pub marked : List ℕ → ℕ → File → Effect
-marked calendar today f = followed (onFile f (clock calendar today (f .premise) (held f))) (evaluated calendar today)
+unfoldable pub markedWith : (File → ℕ) → List ℕ → ℕ → File → Effect
+markedWith width calendar today f = followed (onFile f (clock calendar today (f .premise) (held f))) (evaluatedWith width calendar today)
+
+abbrev pub marked : List ℕ → ℕ → File → Effect
+marked = markedWith keptWidth
 
 -- kinds 4 to 9 and 11 on the order that they name; without one they would not have been accepted
 abbrev pub atPlace : List ℕ → ℕ → File → Record → Found → Effect
@@ -50,14 +53,20 @@ atPlace calendar today f r (At i) = changed calendar today f r i (orderAt (held 
 atPlace calendar today f r Nothing = record { file = f; notices = [] }
 
 -- an accepted record 3 to 9, or 11, on its file: the steps of its kind, then the evaluation
-unfoldable pub stepped : List ℕ → ℕ → File → Record → Effect
-stepped calendar today f r =
+unfoldable pub steppedWith : (File → ℕ) → List ℕ → ℕ → File → Record → Effect
+steppedWith width calendar today f r =
     followed (cond (is kindNewOrder r) (ordered calendar today f r) (atPlace calendar today f r (named r (held f))))
-    (evaluated calendar today)
+    (evaluatedWith width calendar today)
+
+abbrev pub stepped : List ℕ → ℕ → File → Record → Effect
+stepped = steppedWith keptWidth
 
 -- .. and an agreement, which runs no evaluation
+abbrev pub recordDoneWith : (File → ℕ) → List ℕ → ℕ → File → Record → Effect
+recordDoneWith width calendar today f r = cond (is kindAgreement r) (agreed f r) (steppedWith width calendar today f r)
+
 abbrev pub recordDone : List ℕ → ℕ → File → Record → Effect
-recordDone calendar today f r = cond (is kindAgreement r) (agreed f r) (stepped calendar today f r)
+recordDone = recordDoneWith keptWidth
 
 -- accepted, with the notices of its kind's steps
 abbrev pub accepted : List Notice → State → Given
@@ -79,22 +88,30 @@ effectOnNone today r =
 
 -- .. kind 2 takes it away, kinds 3 to 9 end with its evaluation, and a day mark sets T and then, if there is a file, does its clock and
 -- evaluation. Document 02, of kind 11: "it ends with the file's evaluation"; of kind 12: "the record runs no evaluation".
-abbrev pub effectOnFile : List ℕ → ℕ → File → Record → Given
-effectOnFile calendar today f r =
+abbrev pub effectOnFile : (File → ℕ) → List ℕ → ℕ → File → Record → Given
+effectOnFile width calendar today f r =
     cond (is kindRetire r) (accepted [] (record { today = today; file = none }))
-    (cond (is kindDayMark r) (leaving (r .day) (marked calendar (r .day) f))
-    (leaving today (recordDone calendar today f r)))
+    (cond (is kindDayMark r) (leaving (r .day) (markedWith width calendar (r .day) f))
+    (leaving today (recordDoneWith width calendar today f r)))
+
+abbrev pub effectOnWith : (File → ℕ) → List ℕ → ℕ → Option File → Record → Given
+effectOnWith width calendar today none r = effectOnNone today r
+effectOnWith width calendar today (some f) r = effectOnFile width calendar today f r
 
 abbrev pub effectOn : List ℕ → ℕ → Option File → Record → Given
-effectOn calendar today none r = effectOnNone today r
-effectOn calendar today (some f) r = effectOnFile calendar today f r
+effectOn = effectOnWith keptWidth
 
 -- A record that meets a row gets the number of the first; any other gets 0 and what its kind does.
 abbrev pub decide : Answer → Given → State → Given
 decide answer done s = cond (eqb (number answer) 0) done (refused answer s)
 
-unfoldable pub step : List ℕ → State → Record → Given
-step calendar s r = decide (firstRow (rows calendar (s .today) (s .file) r)) (effectOn calendar (s .today) (s .file) r) s
+unfoldable pub stepWith : (File → ℕ) → List ℕ → State → Record → Given
+stepWith width calendar s r =
+    decide (firstRow (rowsWith width calendar (s .today) (s .file) r)) (effectOnWith width calendar (s .today) (s .file) r) s
+
+-- The rules in force: by the width that the file keeps.
+abbrev pub step : List ℕ → State → Record → Given
+step = stepWith keptWidth
 
 -- the same on T and a file or none by themselves
 abbrev pub givenOn : List ℕ → ℕ → Option File → Record → Given

@@ -190,6 +190,7 @@ withOrders f os =
       premise = f .premise;
       retailer = f .retailer;
       since = f .since;
+      window = f .window;
       agreement = f .agreement;
       entered = f .entered;
       count = length os;
@@ -203,6 +204,7 @@ withSupply f retailer since entered =
       premise = f .premise;
       retailer = retailer;
       since = since;
+      window = f .window;
       agreement = f .agreement;
       entered = entered;
       count = f .count;
@@ -216,6 +218,7 @@ withAgreement f agreement =
       premise = f .premise;
       retailer = f .retailer;
       since = f .since;
+      window = f .window;
       agreement = agreement;
       entered = f .entered;
       count = f .count;
@@ -224,4 +227,11 @@ withAgreement f agreement =
 
 -- a file of which every field is zero: an unused place of the book
 abbrev pub blankFile : File
-blankFile = record { premise = 0; retailer = 0; since = 0; agreement = 0; entered = 0; count = 0; orders = replicate mostOrders blank }
+blankFile = record { premise = 0; retailer = 0; since = 0; window = 0; agreement = 0; entered = 0; count = 0; orders = replicate mostOrders blank }
+
+-- A width for every file: the one that it keeps, or one number throughout. Document 02, change 2, compares the two.
+abbrev pub keptWidth : File → ℕ
+keptWidth f = f .window
+
+abbrev pub always : ℕ → File → ℕ
+always width f = width

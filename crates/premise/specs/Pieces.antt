@@ -10,6 +10,7 @@ pub mod Kept
 pub mod OneDay
 pub mod Records
 pub mod Refusals
+pub mod Windows
 use Rattle.premise.specs.Pieces.Forms.{Piece}
 use Rattle.premise.specs.Pieces.Document.{limits, reviews, permits, switches, tape}
 use Rattle.premise.specs.Pieces.Records.{created, ordered, scheduledOrPermitted, unexecuteds, readings, cancels, evaluations}
@@ -18,6 +19,7 @@ use Rattle.premise.specs.Pieces.Evaluation.{sameDay, drops, overtaken, l
 use Rattle.premise.specs.Pieces.DateChange.{redates, redatedOnTape, redatesRefused}
 use Rattle.premise.specs.Pieces.Agreements.{agreements, agreementsTold, agreementsOnTape}
 use Rattle.premise.specs.Pieces.OneDay.{oneDay}
+use Rattle.premise.specs.Pieces.Windows.{windows}
 use Rattle.premise.specs.Pieces.Refusals.{firstIn, statuses, premises, dayLimits, stacks, shares}
 use Rattle.premise.specs.Pieces.Kept.{keptOrders, keptFiles, numbers}
 
@@ -29,5 +31,5 @@ pieces =
     ++ sameDay ++ drops ++ overtaken ++ losing
     ++ firstIn ++ statuses ++ premises ++ dayLimits ++ stacks ++ shares
     ++ redates ++ redatedOnTape ++ redatesRefused
-    ++ agreements ++ agreementsTold ++ agreementsOnTape ++ oneDay
+    ++ agreements ++ agreementsTold ++ agreementsOnTape ++ oneDay ++ windows
     ++ keptOrders ++ keptFiles ++ numbers

@@ -5,7 +5,7 @@ use mathlib.Core.List.{List, _++_}
 use mathlib.Core.Option.{some}
 use mathlib.Core.Bool.{true, false}
 use lib.ListN.{length, take, drop}
-use Rattle.days.specs.Window.{windowWidth, LastInWindow}
+use Rattle.days.specs.Window.{LastInWindow}
 use Rattle.records.specs.declared.Record.{Record}
 use Rattle.records.specs.declared.Notice.{Notice}
 use Rattle.records.specs.Layout.{recordLength}
@@ -51,7 +51,7 @@ pub record Answered (given : Given) (standing : ℕ) (r : PremiseAfter) (before 
 pub record Evaluable (calendar : List ℕ) (today last : ℕ) (f : File) (notices : List Notice) (standing : ℕ) (buffer : List ℕ) : Type 0 where
   pub tidy : Tidy f
   pub room : Room standing notices buffer
-  pub window : LastInWindow calendar windowWidth today last
+  pub window : LastInWindow calendar (f .window) today last
 
 -- a record of a premise that is held, which leaves its file in the book: every kind that needs a premise but the retire
 pub record StaysHeld (r : Record) : Type 0 where

@@ -22,7 +22,7 @@ use Rattle.premise.specs.declared.Answer.the-variants.{OtherAgreement, P
 use Rattle.premise.specs.declared.Answer.the-variants.{NoSwitchDate}
 use Rattle.premise.specs.declared.Answer.the-variants.{NotFirstIn, RetailerShareFull, StackFull, NoSuchOrder, StatusNotTaken}
 use Rattle.premise.specs.declared.Answer.the-variants.{CounterNotAbove, OrderInWindow, NotNextDay}
-use Rattle.premise.specs.Orders.{mostOrders, mostOfOne, scheduled, hasStatus, isOpen, openOf, held}
+use Rattle.premise.specs.Orders.{mostOrders, mostOfOne, scheduled, hasStatus, isOpen, openOf, held, keptWidth}
 use Rattle.premise.specs.Steps.{is, requestedDay, named, orderAt, taken}
 use Rattle.premise.specs.FirstIn.{notFirstIn}
 
@@ -97,9 +97,9 @@ namesOrder r = leb kindScheduled (r .kind) && leb (r .kind) kindReply || is kind
 abbrev pub notAbove : Record → Order → Bool
 notAbove r o = is kindDateChange r && leb (counterOf r) (o .counter)
 
--- "17 when the order is Scheduled and in window".
-abbrev pub tooLate : List ℕ → ℕ → Record → Order → Bool
-tooLate calendar today r o = is kindDateChange r && hasStatus scheduled o && inWindow calendar windowWidth today (o .scheduled)
+-- "17 when the order is Scheduled and in window": by the file's width (change 2).
+abbrev pub tooLate : ℕ → List ℕ → ℕ → Record → Order → Bool
+tooLate width calendar today r o = is kindDateChange r && hasStatus scheduled o && inWindow calendar width today (o .scheduled)
 
 abbrev pub isHeld : Option File → Bool
 isHeld none = false
@@ -127,10 +127,10 @@ premiseRows file r =
     ∷ row PremiseHeld (is kindCreate r && isHeld file)
     ∷ []
 
--- Rows 7 to 15, by the file's orders. Document 02, change 12: "26 when a new order's Q already has 4 or more open orders at the premise,
+-- Rows 7 to 15, by the file's orders and its width. Document 02, change 12: "26 when a new order's Q already has 4 or more open orders at the premise,
 -- after 11 and before 12; it is among the one-premise rows." Change 1: "16 when .., after 14. 17 when .., after 16."
-unfoldable pub orderRows : List ℕ → ℕ → List Order → Record → List Row
-orderRows calendar today os r =
+unfoldable pub orderRows : ℕ → List ℕ → ℕ → List Order → Record → List Row
+orderRows width calendar today os r =
     row OrderOpen (is kindRetire r && anyOf isOpen os)
     ∷ row ReferenceHeld (is kindNewOrder r && not (isNothing (named r os)))
     ∷ row DayOutOfRange (is kindNewOrder r && limited (r .detail) && outOfRange today (requestedDay calendar today r))
@@ -142,10 +142,25 @@ orderRows calendar today os r =
     && (isNothing (named r os) || is kindCancel r && not (eqb (r .retailer) (orderAt os (named r os) .submitter))))
     ∷ row StatusNotTaken (namesOrder r && not (taken r (orderAt os (named r os))))
     ∷ row CounterNotAbove (notAbove r (orderAt os (named r os)))
-    ∷ row OrderInWindow (tooLate calendar today r (orderAt os (named r os)))
+    ∷ row OrderInWindow (tooLate width calendar today r (orderAt os (named r os)))
     ∷ row NotNextDay (is kindDayMark r && not (eqb (r .day) (today + 1)))
     ∷ []
 
+-- the width of a file or none: where there is no file, no row asks for it
+abbrev pub widthIn : (File → ℕ) → Option File → ℕ
+widthIn width none = windowWidth
+widthIn width (some f) = width f
+
+-- rows 7 to 15 of a file or none
+abbrev pub fileRowsWith : (File → ℕ) → List ℕ → ℕ → Option File → Record → List Row
+fileRowsWith width calendar today file r = orderRows (widthIn width file) calendar today (ordersOf file) r
+
+abbrev pub fileRows : List ℕ → ℕ → Option File → Record → List Row
+fileRows = fileRowsWith keptWidth
+
 -- the rows of the one-premise rules
+abbrev pub rowsWith : (File → ℕ) → List ℕ → ℕ → Option File → Record → List Row
+rowsWith width calendar today file r = premiseRows file r ++ fileRowsWith width calendar today file r
+
 abbrev pub rows : List ℕ → ℕ → Option File → Record → List Row
-rows calendar today file r = premiseRows file r ++ orderRows calendar today (ordersOf file) r
+rows = rowsWith keptWidth

@@ -9,6 +9,7 @@ use Rattle.lists.specs.Search.{placeOf, withoutFirst}
 use Rattle.lists.specs.declared.Found.{Found}
 use Rattle.lists.specs.declared.Found.the-variants.{At, Nothing}
 use Rattle.days.specs.Days.{noDay, isDay, isBusinessDay, switchDate}
+use Rattle.days.specs.Window.{windowWidth}
 use Rattle.records.specs.declared.Record.{Record}
 use Rattle.records.specs.Notices.{tdsp}
 use Rattle.records.specs.Records.{kindScheduled, kindPermit, kindUnexecutable, kindRead, kindCancel, kindReply, moveIn, moveOut}
@@ -26,6 +27,10 @@ use Rattle.premise.specs.Passes.{noticeOfNoOrder}
 abbrev pub is : ℕ → Record → Bool
 is kind r = eqb (r .kind) kind
 
+-- Document 02, change 2: a create's detail is the window, "and 0 means 2".
+abbrev pub widthFor : ℕ → ℕ
+widthFor detail = cond (eqb detail 0) windowWidth detail
+
 -- 1 create: new file; S is the day.
 abbrev pub newFile : Record → File
 newFile r =
@@ -33,6 +38,7 @@ newFile r =
       premise = r .premise;
       retailer = r .retailer;
       since = r .day;
+      window = widthFor (r .detail);
       agreement = 0;
       entered = 0;
       count = 0;

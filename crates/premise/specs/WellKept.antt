@@ -7,6 +7,7 @@ use lib.Dec.{eqb, leb}
 use lib.ListN.{length, drop}
 use Rattle.lists.specs.Search.{anyOf, allOf}
 use Rattle.days.specs.Days.{noDay, isDay}
+use Rattle.days.specs.Window.{mostWidth}
 use Rattle.records.specs.Records.{moveIn, aReference, aPremise, aRetailer, aRetailerOrNone, anOrderKind}
 use Rattle.premise.specs.declared.Order.{Order}
 use Rattle.premise.specs.declared.File.{File}
@@ -62,12 +63,13 @@ isBlank o =
     && eqb (o .told) 0
     && eqb (o .counter) 0
 
--- A file is well kept. (It has eight places by its type; the definition, over lists, says so.)
+-- A file is well kept. Document 02, change 2: "The file keeps the width from 1 to 5, and a book with another width isn't well kept." (It has eight places by its type; the definition, over lists, says so.)
 unfoldable pub fileKept : File → Bool
 fileKept f =
     aPremise (f .premise)
     && aRetailerOrNone (f .retailer)
     && isDay (f .since)
+    && (leb 1 (f .window) && leb (f .window) mostWidth)
     && aRetailerOrNone (f .agreement)
     && leb (f .entered) 1
     && leb (f .count) mostOrders
@@ -82,6 +84,7 @@ fileBlank f =
     eqb (f .premise) 0
     && eqb (f .retailer) 0
     && eqb (f .since) 0
+    && eqb (f .window) 0
     && eqb (f .agreement) 0
     && eqb (f .entered) 0
     && eqb (f .count) 0
@@ -98,6 +101,7 @@ pub record FileKept (f : File) : Type 0 where
   pub premise : aPremise (f .premise) ≡ true
   pub retailer : aRetailerOrNone (f .retailer) ≡ true
   pub since : isDay (f .since) ≡ true
+  pub window : (leb 1 (f .window) && leb (f .window) mostWidth) ≡ true
   pub agreement : aRetailerOrNone (f .agreement) ≡ true
   pub entered : leb (f .entered) 1 ≡ true
   pub orders : allOf orderKept (held f) ≡ true

@@ -62,6 +62,8 @@ pub struct File {
     pub retailer: u32,
     // the day since which the retailer holds
     pub since: u16,
+    // how many business days before its scheduled day an order is in window
+    pub window: u8,
     // the retailer with which the owner has an agreement, 0 where there is none
     pub agreement: u32,
     // 1 where the retailer came by a move in that was read on the day since which it holds, else 0

@@ -4,7 +4,7 @@ use mathlib.Core.Path.{_≡_, refl, ap, ap₂, _∙_}
 use mathlib.Core.List.{List, [], _∷_, _++_}
 use mathlib.Core.Bool.{Bool, false}
 use Rattle.lists.proofs.TestLaws.{or-left, or-right}
-use Rattle.days.specs.Window.{windowWidth, upTo, LastInWindow}
+use Rattle.days.specs.Window.{upTo, LastInWindow}
 use Rattle.days.proofs.LastInWindow.{window-is-up-to}
 use Rattle.premise.specs.declared.Order.{Order}
 use Rattle.premise.specs.declared.File.{File}
@@ -69,16 +69,16 @@ module _ (today last : ℕ) where
         ∙ ap (λ (a : Outcome). andThen a (lossNotices (upTo last) f)) permits-still
         ∙ losses-still
 
--- document 01's window, by its last day
-pub evaluated-by-last : (calendar : List ℕ) (today last : ℕ) → LastInWindow calendar windowWidth today last → (f : File)
+-- the file's window, by its last day
+pub evaluated-by-last : (calendar : List ℕ) (today last : ℕ) (f : File) → LastInWindow calendar (f .window) today last
     → evaluated calendar today f ≡ evaluatedBy (upTo last) today f
-evaluated-by-last calendar today last window f =
-    ap (λ (near : ℕ → Bool). evaluatedBy near today f) (window-is-up-to calendar windowWidth today last window)
+evaluated-by-last calendar today last f window =
+    ap (λ (near : ℕ → Bool). evaluatedBy near today f) (window-is-up-to calendar (f .window) today last window)
 
-pub evaluated-still : (calendar : List ℕ) (today last : ℕ) → LastInWindow calendar windowWidth today last
-    → (f : File) → Tidy f → anyAt (changesOrder today last (f .agreement) (held f)) 0 (held f) ≡ false
+pub evaluated-still : (calendar : List ℕ) (today last : ℕ) (f : File) → LastInWindow calendar (f .window) today last
+    → Tidy f → anyAt (changesOrder today last (f .agreement) (held f)) 0 (held f) ≡ false
     → evaluated calendar today f ≡ record { file = f; notices = [] }
-evaluated-still calendar today last window f tidy e =
-    evaluated-by-last calendar today last window f
+evaluated-still calendar today last f window tidy e =
+    evaluated-by-last calendar today last f window
     ∙ file-same f tidy (evaluation (upTo last) today f (held f))
     (evaluation-still today last f (held f) e)

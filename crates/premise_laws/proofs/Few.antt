@@ -10,7 +10,7 @@ use lib.ListN.{length, set, length-append, length-set}
 use Rattle.lists.specs.declared.Found.{Found}
 use Rattle.lists.specs.declared.Found.the-variants.{At, Nothing}
 use Rattle.days.specs.Days.{isBusinessDay}
-use Rattle.days.specs.Window.{windowWidth, inWindow}
+use Rattle.days.specs.Window.{inWindow}
 use Rattle.records.specs.declared.Record.{Record}
 use Rattle.records.specs.Records.{kindCreate, kindRetire, kindNewOrder, kindDayMark, kindAgreement, delete}
 use Rattle.premise.specs.declared.Order.{Order}
@@ -24,7 +24,7 @@ use Rattle.premise.specs.Evaluation.{sameDaySwitches, sameDaySwitch, dropsOnSwi
 use Rattle.premise.specs.Evaluation.{lossNotices, lossNotice, evaluation, evaluated}
 use Rattle.premise.specs.WellKept.{orderKept, FileKept}
 use Rattle.premise.specs.Refusals.{number, firstRow, rows}
-use Rattle.premise.specs.OnePremise.{Given, effectOn, atPlace, marked, stepped, step}
+use Rattle.premise.specs.OnePremise.{Given, effectOn, atPlace, stepped, markedWith, stepWith, steppedWith}
 use Rattle.premise_laws.specs.Laws.{Held, mostOfRecord, MarkFew, StepFew}
 use Rattle.lists.proofs.TestLaws.{by-test}
 use Rattle.premise.proofs.KeptFiles.{held-with}
@@ -68,12 +68,12 @@ pub evaluated-few : (calendar : List ℕ) (today : ℕ) (f : File) → length (e
 evaluated-few calendar today f =
     omega (
       arith,
-      evaluation-few (inWindow calendar windowWidth today) (window-days calendar windowWidth today) today f (held f),
+      evaluation-few (inWindow calendar (f .window) today) (window-days calendar (f .window) today) today f (held f),
       total-most atSettling settling-most (held f),
     )
 
 pub mark-few : MarkFew
-unfolding marked
+unfolding markedWith
 mark-few calendar today f k =
     let ticks : Outcome = clock calendar today (f .premise) (held f) in
     omega (
@@ -81,7 +81,7 @@ mark-few calendar today f k =
       pass-few orderKept atMark atSettling (λ (i : ℕ). ticked (isBusinessDay calendar today) today (f .premise))
           (λ i. ticked-few (isBusinessDay calendar today) today (f .premise)) 0 (held f) (k .orders),
       total-most atMark (λ o. omega arith) (held f),
-      evaluation-few (inWindow calendar windowWidth today) (window-days calendar windowWidth today) today
+      evaluation-few (inWindow calendar (f .window) today) (window-days calendar (f .window) today) today
           (withOrders f (ticks .orders)) (held (withOrders f (ticks .orders))),
       ap (total atSettling) (held-with f (ticks .orders)),
       length-append (ticks .notices) (evaluated calendar today (withOrders f (ticks .orders)) .notices),
@@ -123,7 +123,7 @@ new-few calendar today f r h =
 stepped-few : (calendar : List ℕ) (today : ℕ) (f : File) (r : Record) → f .count ≤ mostOrders
     → (is kindNewOrder r ≡ true → length (makeRoom (held f)) < mostOrders)
     → length (stepped calendar today f r .notices) ≤ mostOfRecord
-unfolding stepped
+unfolding steppedWith
 stepped-few calendar today f r h room =
     let first : Effect = cond (is kindNewOrder r) (ordered calendar today f r) (atPlace calendar today f r (named r (held f))) in
     let few : Few first =
@@ -163,7 +163,7 @@ effect-few calendar today (some f) r e m k =
     stepped-few calendar today f r (k .tidy .few) (λ new. accepted-room calendar today f r (k .tidy .few) e new))))
 
 pub step-few : StepFew
-unfolding step
+unfolding stepWith
 step-few calendar s r formed m k =
     by-test (λ (g : Given). length (g .notices) ≤ mostOfRecord) (eqb (number (firstRow (rows calendar (s .today) (s .file) r))) 0) _ _
     (λ e. effect-few calendar (s .today) (s .file) r e m k)

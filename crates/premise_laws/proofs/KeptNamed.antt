@@ -96,6 +96,7 @@ module _ (calendar : List ℕ) (today : ℕ) (f : File) (r : Record) (o : Order)
       (λ e. record {
         number = h .number;
         known = h .kept .premise;
+        window = h .kept .window;
         agreement = h .kept .agreement;
         retailer = by-test (λ (q : ℕ). aRetailerOrNone q ≡ true) (hasKind moveOut o) (f .agreement) (o .submitter)
             (λ q. h .kept .agreement)

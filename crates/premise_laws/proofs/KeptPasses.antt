@@ -11,7 +11,7 @@ use Rattle.lists.specs.Search.{allOf, Each}
 use Rattle.lists.proofs.TestLaws.{and-left, and-right}
 use Rattle.lists.proofs.SearchLaws.{count-one}
 use Rattle.days.specs.Days.{isDay, isBusinessDay}
-use Rattle.days.specs.Window.{windowWidth, inWindow}
+use Rattle.days.specs.Window.{mostWidth, inWindow}
 use Rattle.records.specs.Records.{aPremise, aRetailerOrNone}
 use Rattle.premise.specs.declared.Order.{Order}
 use Rattle.premise.specs.declared.File.{File}
@@ -21,7 +21,7 @@ use Rattle.premise.specs.Clock.{ticked, clock}
 use Rattle.premise.specs.Evaluation.{sameDaySwitch, sameDaySwitches, dropOnSwitchDay, dropsOnSwitchDays, permitOvertaken, permitsOvertaken}
 use Rattle.premise.specs.Evaluation.{lossNotice, lossNotices, evaluation, evaluated}
 use Rattle.premise.specs.WellKept.{orderKept, distinct}
-use Rattle.premise.specs.OnePremise.{marked}
+use Rattle.premise.specs.OnePremise.{marked, markedWith}
 use Rattle.premise_laws.specs.Laws.{KeptFor, MarkKeeps, MarkKeepsShares}
 use Rattle.premise_laws.proofs.KeptOrders.{OrderKept, orders-facts, orders-test}
 use Rattle.premise_laws.proofs.KeptChanges.{Leaves, leaves-ticked, leaves-same-day, leaves-drop, leaves-overtaken, leaves-loss}
@@ -114,6 +114,7 @@ pub record HeaderKept (premise : ℕ) (f : File) : Type 0 where
   pub known : aPremise (f .premise) ≡ true
   pub retailer : aRetailerOrNone (f .retailer) ≡ true
   pub since : isDay (f .since) ≡ true
+  pub window : (leb 1 (f .window) && leb (f .window) mostWidth) ≡ true
   pub agreement : aRetailerOrNone (f .agreement) ≡ true
   pub entered : leb (f .entered) 1 ≡ true
 
@@ -124,6 +125,7 @@ header-of premise f k =
       known = k .kept .premise;
       retailer = k .kept .retailer;
       since = k .kept .since;
+      window = k .kept .window;
       agreement = k .kept .agreement;
       entered = k .kept .entered;
     }
@@ -139,6 +141,7 @@ kept-with premise f os h n k d =
         premise = h .known;
         retailer = h .retailer;
         since = h .since;
+        window = h .window;
         agreement = h .agreement;
         entered = h .entered;
         orders = ap (allOf orderKept) (held-with f os) ∙ orders-test os k;
@@ -157,6 +160,7 @@ kept-agreement premise f agreement h k =
         premise = k .kept .premise;
         retailer = k .kept .retailer;
         since = k .kept .since;
+        window = k .kept .window;
         agreement = h;
         entered = k .kept .entered;
         orders = k .kept .orders;
@@ -186,14 +190,14 @@ file-after premise f g os k h a = record {
 pub evaluated-leaves : (calendar : List ℕ) (today : ℕ) (f : File) (premise : ℕ) → KeptFor premise f
     → LeavesFile premise f (evaluated calendar today f .file)
 evaluated-leaves calendar today f premise k =
-    file-after premise f f (evaluation (inWindow calendar windowWidth today) today f (held f) .orders) k
+    file-after premise f f (evaluation (inWindow calendar (f .window) today) today f (held f) .orders) k
     (header-of premise f k)
-    (evaluation-leaves (inWindow calendar windowWidth today) today f (held f)
+    (evaluation-leaves (inWindow calendar (f .window) today) today f (held f)
     (orders-facts (held f) (k .kept .orders)))
 
 pub mark-leaves : (calendar : List ℕ) (today : ℕ) (f : File) (premise : ℕ) → KeptFor premise f
     → LeavesFile premise f (marked calendar today f .file)
-unfolding marked
+unfolding markedWith
 mark-leaves calendar today f premise k =
     let after = clock calendar today (f .premise) (held f) .orders in
     let a = file-after premise f f after k (header-of premise f k)

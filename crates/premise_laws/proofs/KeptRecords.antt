@@ -1,31 +1,41 @@
 -- What an accepted record says: the fields that its kind gives it, if it is well formed, and that no row of the table of refusals held.
 -- Assumes nothing.
 use Prim.Native.Nat.{ℕ, _+_}
-use mathlib.Core.Path.{_≡_, refl, sym, _∙_}
+use mathlib.Core.Path.{_≡_, refl, sym, ap₂, _∙_}
 use mathlib.Core.List.{List, [], _∷_}
 use mathlib.Core.Option.{Option}
 use mathlib.Core.Bool.{Bool, true, false, cond, not, _&&_, _||_, false≢true}
 use lib.Dec.{eqb, leb}
-use borrow.Author.Tests.{eqb-true}
+use native.Mathlib.Omega.{arith}
+use borrow.Author.Tests.{eqb-true, eqb-false, le-leb}
 use Rattle.lists.specs.Search.{anyOf, countOf, Each}
 use Rattle.lists.proofs.TestLaws.{by-test, pass-each}
 use Rattle.days.specs.Days.{noDay, isDay, isBusinessDay, switchDate}
+use Rattle.days.specs.Window.{windowWidth, mostWidth}
 use Rattle.records.specs.declared.Record.{Record}
 use Rattle.records.specs.Records.{kindCreate, kindRetire, kindNewOrder, kindScheduled, kindRead, kindCancel, kindDayMark, kindDateChange}
 use Rattle.records.specs.Records.{standardSwitch, aReference, aPremise, aRetailer, aRetailerOrNone, aCounter, anOrderKind, orderDay}
-use Rattle.records.specs.Records.{kindAgreement, delete, anAgreement, unused, wellFormed}
+use Rattle.records.specs.Records.{kindAgreement, delete, anAgreement, aWindow, unused, wellFormed}
 use Rattle.records.proofs.ByKind.{formed-at}
 use Rattle.premise.specs.declared.File.{File}
-use Rattle.premise.specs.Orders.{mostOrders, mostOfOne, isOpen, openOf}
+use Rattle.premise.specs.Orders.{mostOrders, mostOfOne, isOpen, openOf, keptWidth}
 use Rattle.premise.specs.Clock.{mostWaited}
-use Rattle.premise.specs.Steps.{is, requestedDay, waitBegun, named, orderAt, taken}
+use Rattle.premise.specs.Steps.{is, widthFor, requestedDay, waitBegun, named, orderAt, taken}
 use Rattle.premise.specs.FirstIn.{notFirstIn}
 use Rattle.premise.specs.Refusals.{Row, number, firstRow, premiseRows, orderRows, rows, isHeld, ordersOf, isNothing, needsPremise}
-use Rattle.premise.specs.Refusals.{namesOrder, agreementOf, limited, outOfRange, notAbove, tooLate}
+use Rattle.premise.specs.Refusals.{namesOrder, agreementOf, widthIn, limited, outOfRange, notAbove, tooLate}
 
 -- a wait that begins is within the count
 pub wait-few : (calendar : List ℕ) (today : ℕ) → leb (waitBegun calendar today) mostWaited ≡ true
 wait-few calendar today = by-test (λ (days : ℕ). leb days mostWaited ≡ true) (isBusinessDay calendar today) 1 0 (λ q. refl) (λ q. refl)
+
+-- the width that a create's detail stands for is from 1 to 5
+pub width-kept : (detail : ℕ) → aWindow detail ≡ true → (leb 1 (widthFor detail) && leb (widthFor detail) mostWidth) ≡ true
+width-kept detail h = go (eqb detail 0) refl
+  where
+    go : (none : Bool) → eqb detail 0 ≡ none → (leb 1 (cond none windowWidth detail) && leb (cond none windowWidth detail) mostWidth) ≡ true
+    go true e = refl
+    go false e = ap₂ (λ (a b : Bool). a && b) (le-leb 1 detail (omega (arith, eqb-false detail 0 e))) h
 
 -- ---- a well-formed record of a kind
 -- what its fields hold, each by its test
@@ -45,8 +55,8 @@ fields details days references premises retailers r h =
     record { detail = k .0; day = k .1 .0; reference = k .1 .1 .0; premise = k .1 .1 .1 .0; retailer = k .1 .1 .1 .1 .0 }
 
 module _ (r : Record) (w : wellFormed r ≡ true) where
-  pub create-fits : is kindCreate r ≡ true → Fits unused isDay unused aPremise aRetailerOrNone r
-  create-fits e = fields unused isDay unused aPremise aRetailerOrNone r (sym (formed-at kindCreate r (eqb-true (r .kind) kindCreate e)) ∙ w)
+  pub create-fits : is kindCreate r ≡ true → Fits aWindow isDay unused aPremise aRetailerOrNone r
+  create-fits e = fields aWindow isDay unused aPremise aRetailerOrNone r (sym (formed-at kindCreate r (eqb-true (r .kind) kindCreate e)) ∙ w)
 
   pub order-fits : is kindNewOrder r ≡ true → Fits anOrderKind (orderDay (r .detail)) aReference aPremise aRetailer r
   order-fits e = fields anOrderKind (orderDay (r .detail)) aReference aPremise aRetailer r
@@ -100,7 +110,7 @@ pub record NoRow (calendar : List ℕ) (today : ℕ) (file : Option File) (r : R
       && not (eqb (r .retailer) (orderAt (ordersOf file) (named r (ordersOf file)) .submitter)))) ≡ false
   pub statusNotTaken : (namesOrder r && not (taken r (orderAt (ordersOf file) (named r (ordersOf file))))) ≡ false
   pub counterNotAbove : notAbove r (orderAt (ordersOf file) (named r (ordersOf file))) ≡ false
-  pub inWindow : tooLate calendar today r (orderAt (ordersOf file) (named r (ordersOf file))) ≡ false
+  pub inWindow : tooLate (widthIn keptWidth file) calendar today r (orderAt (ordersOf file) (named r (ordersOf file))) ≡ false
   pub notNextDay : (is kindDayMark r && not (eqb (r .day) (today + 1))) ≡ false
 
 pub no-row : (calendar : List ℕ) (today : ℕ) (file : Option File) (r : Record)

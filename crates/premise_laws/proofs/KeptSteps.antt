@@ -21,10 +21,10 @@ use Rattle.premise.specs.Evaluation.{evaluated}
 use Rattle.premise.specs.Steps.{is, newFile, ordered, named, orderAt, taken, agreed}
 use Rattle.premise.specs.WellKept.{FileKept}
 use Rattle.premise.specs.Refusals.{number, rows, firstRow, namesOrder}
-use Rattle.premise.specs.OnePremise.{Given, atPlace, stepped, effectOn, step, givenOn}
+use Rattle.premise.specs.OnePremise.{Given, atPlace, stepped, effectOn, givenOn, stepWith, steppedWith}
 use Rattle.premise_laws.specs.Laws.{Held, KeptFor, StepKeeps, WithinShare, StepKeepsShares}
 use Rattle.premise_laws.proofs.KeptPasses.{kept-with, kept-agreement, evaluated-leaves, mark-leaves}
-use Rattle.premise_laws.proofs.KeptRecords.{create-fits, agreement-fits, NoRow, no-row}
+use Rattle.premise_laws.proofs.KeptRecords.{width-kept, create-fits, agreement-fits, NoRow, no-row}
 use Rattle.premise_laws.proofs.KeptNew.{ordered-keeps, ordered-share}
 use Rattle.premise_laws.proofs.KeptNamed.{named-leaves}
 
@@ -42,8 +42,7 @@ names-order : (r : Record) → wellFormed r ≡ true → is kindCreate r ≡ fal
 names-order r w c t n d a = go (is kindDateChange r) refl
   where
     go : (change : Bool) → is kindDateChange r ≡ change → namesOrder r ≡ true
-    go true e = ap (λ (x : Bool). leb kindScheduled (r .kind) && leb (r .kind) kindReply || x) e ∙ or-true
-        (leb kindScheduled (r .kind) && leb (r .kind) kindReply)
+    go true e = ap (λ (x : Bool). leb kindScheduled (r .kind) && leb (r .kind) kindReply || x) e ∙ or-true (leb kindScheduled (r .kind) && leb (r .kind) kindReply)
     go false e =
         let k = formed r w .kind in
         ap₂ (λ (x y : Bool). x && y || is kindDateChange r)
@@ -72,8 +71,15 @@ module _ (calendar : List ℕ) (today : ℕ) (r : Record) (premise retailer : �
       let fits = create-fits r w e in
       record {
         kept = kept-with premise (newFile r) []
-            (record { number = p; known = fits .premise; retailer = fits .retailer; since = fits .day; agreement = refl; entered = refl })
-            (omega arith) tt refl;
+            (record {
+              number = p;
+              known = fits .premise;
+              retailer = fits .retailer;
+              since = fits .day;
+              window = width-kept (r .detail) (fits .detail);
+              agreement = refl;
+              entered = refl;
+            }) (omega arith) tt refl;
         share = λ h. omega arith;
       }
 
@@ -89,7 +95,7 @@ module _ (calendar : List ℕ) (today : ℕ) (r : Record) (premise retailer : �
 
     stepped-left : is kindRetire r ≡ false → is kindDayMark r ≡ false → is kindAgreement r ≡ false
         → Left premise retailer (WithinShare retailer f) (stepped calendar today f r .file)
-    unfolding stepped
+    unfolding steppedWith
     stepped-left t d agreement = ending
         (by-test (λ (e : Effect). Left premise retailer (WithinShare retailer f) (e .file)) (is kindNewOrder r) (ordered calendar today f r)
         (atPlace calendar today f r (named r (held f)))
@@ -142,7 +148,7 @@ module _ (calendar : List ℕ) (today : ℕ) (r : Record) (premise retailer : �
 
   step-left : (file : Option File) → Own file → Held (KeptFor premise) file
       → LeftBy premise retailer (Held (WithinShare retailer) file) (givenOn calendar today file r)
-  unfolding step
+  unfolding stepWith
   step-left file own k =
       by-test (LeftBy premise retailer (Held (WithinShare retailer) file)) (eqb (number (firstRow (rows calendar today file r))) 0) _ _
       (λ e. effect-left file own (no-row calendar today file r e) k)

@@ -11,7 +11,7 @@ use Rattle.premise.specs.Orders.{held}
 use Rattle.premise.specs.Passes.{Effect}
 use Rattle.premise.specs.Clock.{ticked, clock}
 use Rattle.premise.specs.Evaluation.{evaluated}
-use Rattle.premise.specs.OnePremise.{followed, marked}
+use Rattle.premise.specs.OnePremise.{followed, markedWith}
 use Rattle.premise_laws.specs.Changes.{clockChanges}
 use Rattle.premise_laws.proofs.ClockChanges.{tick-still}
 use Rattle.premise_laws.specs.Changes.{changesOrder}
@@ -33,7 +33,7 @@ any-less p q less j (o ∷ os) e =
     (any-less p q less (suc j) os (or-right (p j o) (anyAt p (suc j) os) e))
 
 pub unchanged-stays : UnchangedStays
-unfolding marked
+unfolding markedWith
 unchanged-stays calendar today last f tidy window e =
     let business = isBusinessDay calendar today in
     let os = held f in
@@ -45,4 +45,4 @@ unchanged-stays calendar today last f tidy window e =
     let quiet = any-less (markChangesOrder business today last agreement os) (changesOrder today last agreement os)
     (λ i o. or-right (clockChanges business today o) (changesOrder today last agreement os i o)) 0 os e in
     ap (λ (a : Effect). followed a (evaluated calendar today)) (file-same f tidy (clock calendar today (f .premise) os) wound)
-    ∙ evaluated-still calendar today last window f tidy quiet
+    ∙ evaluated-still calendar today last f window tidy quiet

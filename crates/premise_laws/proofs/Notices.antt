@@ -9,7 +9,7 @@ use Rattle.lists.specs.Search.{Each}
 use Rattle.lists.specs.declared.Found.{Found}
 use Rattle.lists.specs.declared.Found.the-variants.{At, Nothing}
 use Rattle.days.specs.Days.{isBusinessDay}
-use Rattle.days.specs.Window.{windowWidth, inWindow}
+use Rattle.days.specs.Window.{inWindow}
 use Rattle.records.specs.declared.Record.{Record}
 use Rattle.records.specs.Records.{kindCreate, kindRetire, kindNewOrder, kindDayMark, kindAgreement, delete}
 use Rattle.premise.specs.declared.Order.{Order}
@@ -22,7 +22,7 @@ use Rattle.premise.specs.Clock.{clock, ticked, reviewed, permitAwaited, cancelA
 use Rattle.premise.specs.Evaluation.{sameDaySwitches, sameDaySwitch, dropsOnSwitchDays, dropOnSwitchDay, permitsOvertaken, permitOvertaken}
 use Rattle.premise.specs.Evaluation.{lossNotices, lossNotice, evaluation, evaluated}
 use Rattle.premise.specs.Refusals.{firstRow, rows}
-use Rattle.premise.specs.OnePremise.{Given, effectOn, atPlace, marked, stepped, step}
+use Rattle.premise.specs.OnePremise.{Given, effectOn, atPlace, marked, stepped, markedWith, stepWith, steppedWith}
 use Rattle.premise_laws.specs.Laws.{Held, Of, StepNotices, MarkNotices}
 use Rattle.lists.proofs.TestLaws.{by-test}
 use Rattle.premise.proofs.Answers.{either}
@@ -72,12 +72,12 @@ evaluation-of near today f os =
     (λ i o. loss-of premise near today retailer agreement os i o .all) 0 os)
 
 pub mark-notices : MarkNotices
-unfolding marked
+unfolding markedWith
 mark-notices calendar today f =
     each-followed (Of (f .premise)) (onFile f (clock calendar today (f .premise) (held f))) (evaluated calendar today)
     (each-pass (Of (f .premise)) (λ (i : ℕ). ticked (isBusinessDay calendar today) today (f .premise))
     (λ i o. ticked-of (f .premise) (isBusinessDay calendar today) today o .all) 0 (held f))
-    (evaluation-of (inWindow calendar windowWidth today) today _ _)
+    (evaluation-of (inWindow calendar (f .window) today) today _ _)
 
 -- ---- a record's own steps
 order-of : (calendar : List ℕ) (today : ℕ) (f : File) (r : Record) (o : Order) → Speaks (f .premise) (onNamed calendar today f r o)
@@ -114,10 +114,10 @@ evaluated-of : (calendar : List ℕ) (today premise : ℕ) (f : File) → f .pre
     → Each (Of premise) (evaluated calendar today f .notices)
 evaluated-of calendar today premise f e =
     of-same (evaluated calendar today f .notices) e
-    (evaluation-of (inWindow calendar windowWidth today) today f (held f))
+    (evaluation-of (inWindow calendar (f .window) today) today f (held f))
 
 stepped-of : (calendar : List ℕ) (today : ℕ) (f : File) (r : Record) → Each (Of (f .premise)) (stepped calendar today f r .notices)
-unfolding stepped
+unfolding steppedWith
 stepped-of calendar today f r =
     let first : Effect = cond (is kindNewOrder r) (ordered calendar today f r) (atPlace calendar today f r (named r (held f))) in
     let stays : Stays (f .premise) first =
@@ -151,7 +151,7 @@ effect-of calendar today (some f) r premise h =
     (λ t. of-same (stepped calendar today f r .notices) h (stepped-of calendar today f r))))
 
 pub step-notices : StepNotices
-unfolding step
+unfolding stepWith
 step-notices calendar s r premise h =
     either (λ g. Each (Of premise) (g .notices)) (firstRow (rows calendar (s .today) (s .file) r)) s
     (effect-of calendar (s .today) (s .file) r premise h) tt

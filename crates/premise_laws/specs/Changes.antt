@@ -6,7 +6,7 @@ use lib.Dec.{eqb, leb}
 use Rattle.premise.specs.declared.Order.{Order}
 use Rattle.premise.specs.Orders.{inReview, permitPending, cancelPending, hasStatus, scheduled, held}
 use Rattle.premise.specs.Clock.{mostWaited, reviewEnds, ticked}
-use Rattle.days.specs.Window.{upTo, windowWidth, LastInWindow}
+use Rattle.days.specs.Window.{upTo, LastInWindow}
 use Rattle.premise.specs.Evaluation.{isScheduledOrCancelPending, givesWay, isDisplaced, isOvertaken, isDue}
 use mathlib.Core.List.{List, [], _∷_}
 use mathlib.Core.Path.{_≡_}
@@ -55,6 +55,6 @@ markChangesFile business today last f = anyAt (markChangesOrder business today l
 -- A file without such an order is left alone by the day mark: clock and evaluation leave it as it is and send nothing.
 abbrev pub UnchangedStays : Type 0
 UnchangedStays =
-    (calendar : List ℕ) (today last : ℕ) (f : File) → Tidy f → LastInWindow calendar windowWidth today last
+    (calendar : List ℕ) (today last : ℕ) (f : File) → Tidy f → LastInWindow calendar (f .window) today last
     → markChangesFile (isBusinessDay calendar today) today last f ≡ false
     → marked calendar today f ≡ record { file = f; notices = [] }

@@ -4,9 +4,8 @@ use mathlib.Core.List.{List, [], _∷_}
 use mathlib.Core.Bool.{Bool, false, _&&_}
 use Rattle.days.specs.Days.{isDay}
 use Rattle.records.specs.declared.Record.{Record}
-use Rattle.records.specs.Records.{unused, aReference, aPremise, aRetailer, aRetailerOrNone, aCounter, anOrderKind, aReply}
-use Rattle.records.specs.Records.{anAgreement}
-use Rattle.records.specs.Records.{orderDay}
+use Rattle.records.specs.Records.{unused, aReference, aPremise, aRetailer, aRetailerOrNone, aCounter, anOrderKind, aReply, anAgreement}
+use Rattle.records.specs.Records.{aWindow, orderDay}
 
 -- what the fields beside the kind may hold
 abbrev pub holds : (ℕ → Bool) → (ℕ → Bool) → (ℕ → Bool) → (ℕ → Bool) → (ℕ → Bool) → Record → Bool
@@ -14,7 +13,7 @@ holds detail day reference premise retailer r =
     detail (r .detail) && day (r .day) && reference (r .reference) && premise (r .premise) && retailer (r .retailer)
 
 abbrev pub createHolds : Record → Bool
-createHolds = holds unused isDay unused aPremise aRetailerOrNone
+createHolds = holds aWindow isDay unused aPremise aRetailerOrNone
 
 abbrev pub retireHolds : Record → Bool
 retireHolds = holds unused unused unused aPremise unused

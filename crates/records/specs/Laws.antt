@@ -7,6 +7,7 @@ use mathlib.Core.List.{List, [], _∷_}
 use mathlib.Core.Bool.{Bool, true}
 use lib.ListN.{length, getD}
 use Rattle.days.specs.Days.{lastDay}
+use Rattle.days.specs.Window.{mostWidth}
 use Rattle.records.specs.declared.Record.{Record}
 use Rattle.records.specs.declared.Reading.{Reading}
 use Rattle.records.specs.declared.Reading.the-variants.{Malformed, Says}
@@ -36,8 +37,12 @@ ARetailer = UpTo lastRetailer
 abbrev pub ARetailerOrNone : ℕ → Type 0
 ARetailerOrNone n = n ≤ lastRetailer
 
--- F and a counter have 32 bits and P 64, and none is 0. The tests ask "not 0" and leave the bits to the fields: of what goes into its field
--- they say document 01's whole range.
+-- a create's detail
+abbrev pub AWindow : ℕ → Type 0
+AWindow n = n ≤ mostWidth
+
+-- F and a counter have 32 bits and P 64, and none is 0. The tests ask "not 0" and leave the bits to the fields: of what goes into its field they say
+-- document 01's whole range.
 abbrev pub SaysRange : (ℕ → Bool) → Field → ℕ → Type 0
 SaysRange test field last = (n : ℕ) → GoesInto field n → (test n ≡ true) ↔ UpTo last n
 
@@ -67,7 +72,7 @@ pub record Fields (Detail Day Reference Premise Retailer : ℕ → Type 0) (r : 
 abbrev pub fieldsByKind : Record → List (Type 0)
 fieldsByKind r =
     ⊥
-    ∷ Fields Unused ADay Unused Given ARetailerOrNone r
+    ∷ Fields AWindow ADay Unused Given ARetailerOrNone r
     ∷ Fields Unused Unused Unused Given Unused r
     ∷ Fields (UpTo massTransitionDrop) (OrderDay (r .detail)) Given Given ARetailer r
     ∷ Fields Unused ADay Given Given Unused r

@@ -5,6 +5,7 @@ use mathlib.Core.Bool.{Bool, cond, not, _&&_, _||_}
 use lib.Dec.{eqb, leb}
 use lib.ListN.{length}
 use Rattle.days.specs.Days.{isDay}
+use Rattle.days.specs.Window.{mostWidth}
 use Rattle.records.specs.declared.Record.{Record}
 use Rattle.records.specs.declared.Reading.{Reading}
 use Rattle.records.specs.declared.Reading.the-variants.{Malformed, Says}
@@ -112,6 +113,10 @@ anOrderKind n = leb moveIn n && leb n massTransitionDrop
 abbrev pub aReply : ℕ → Bool
 aReply n = leb replyAccept n && leb n replyReject
 
+-- Document 02, change 2: "A create's detail byte gives the window, 1 to 5 business days, and 0 means 2; above 5 gets 3."
+abbrev pub aWindow : ℕ → Bool
+aWindow n = leb n mostWidth
+
 abbrev pub anAgreement : ℕ → Bool
 anAgreement n = leb establish n && leb n delete
 
@@ -129,7 +134,7 @@ orderDay kind = cond (eqb kind standardSwitch) unused isDay
 -- and detail", "a retailer of 0 gets 3".
 unfoldable pub wellFormed : Record → Bool
 wellFormed r =
-    fits kindCreate unused isDay unused aPremise aRetailerOrNone r
+    fits kindCreate aWindow isDay unused aPremise aRetailerOrNone r
     || fits kindRetire unused unused unused aPremise unused r
     || fits kindNewOrder anOrderKind (orderDay (r .detail)) aReference aPremise aRetailer r
     || fits kindScheduled unused isDay aReference aPremise unused r

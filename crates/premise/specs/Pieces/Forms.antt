@@ -27,11 +27,16 @@ use Rattle.premise.specs.Evaluation.{permitOvertaken, isDue, lossNotice,
 use Rattle.premise.specs.FirstIn.{refuses, standsInWay, notFirstIn}
 use Rattle.premise.specs.WellKept.{orderKept, isBlank, fileKept, fileBlank}
 use Rattle.premise.specs.Refusals.{number, premiseRows, orderRows, ordersOf}
-use Rattle.premise.specs.OnePremise.{State, Given, startState, marked, stepped, step, runs, endState}
+use Rattle.premise.specs.OnePremise.{State, Given, startState, markedWith, steppedWith, stepWith, step, runs, endState}
 
 -- ---- records in the trade's words, all for premise 7
+-- a create with its detail, the window
+abbrev pub createWide : ℕ → ℕ → ℕ → Record
+createWide window day retailer =
+    record { kind = kindCreate; detail = window; day = day; reference = 0; premise = 7; retailer = retailer }
+
 abbrev pub create : ℕ → ℕ → Record
-create day retailer = record { kind = kindCreate; detail = 0; day = day; reference = 0; premise = 7; retailer = retailer }
+create day retailer = createWide 0 day retailer
 
 abbrev pub retire : Record
 retire = record { kind = kindRetire; detail = 0; day = 0; reference = 0; premise = 7; retailer = 0 }
@@ -135,17 +140,32 @@ counted counter o =
 abbrev pub zeros : Order
 zeros = stands 0 0 0 0 0 0 0 0 0
 
--- the file of premise 7: R, S and its orders; the owner has no agreement, and R came by no move in on S
+-- the file of premise 7: R, S and its orders; its window is 2, the owner has no agreement, and R came by no move in on S
 abbrev pub file : ℕ → ℕ → List Order → File
 file retailer since os =
     record {
       premise = 7;
       retailer = retailer;
       since = since;
+      window = 2;
       agreement = 0;
       entered = 0;
       count = length os;
       orders = os ++ replicate (8 - length os) zeros;
+    }
+
+-- the same with another window
+abbrev pub withWindow : ℕ → File → File
+withWindow window f =
+    record {
+      premise = f .premise;
+      retailer = f .retailer;
+      since = f .since;
+      window = window;
+      agreement = f .agreement;
+      entered = f .entered;
+      count = f .count;
+      orders = f .orders;
     }
 
 -- the same where R came by a move in that was read on S
@@ -164,6 +184,10 @@ stateWith agreement today retailer since os = record { today = today; file = som
 abbrev pub stateEntered : ℕ → ℕ → ℕ → ℕ → List Order → State
 stateEntered agreement today retailer since os =
     record { today = today; file = some (enteredFile (withAgreement (file retailer since os) agreement)) }
+
+-- the file with a window
+abbrev pub stateWide : ℕ → ℕ → ℕ → ℕ → List Order → State
+stateWide window today retailer since os = record { today = today; file = some (withWindow window (file retailer since os)) }
 
 abbrev pub nothing : ℕ → State
 nothing today = record { today = today; file = none }
@@ -255,6 +279,7 @@ sameFile (some f) (some g) =
     eqb (f .premise) (g .premise)
     && eqb (f .retailer) (g .retailer)
     && eqb (f .since) (g .since)
+    && eqb (f .window) (g .window)
     && eqb (f .agreement) (g .agreement)
     && eqb (f .entered) (g .entered)
     && eqb (f .count) (g .count)
@@ -334,6 +359,6 @@ unfolding kindOfDay isBusinessDay switchDate window.businessDays inWindow places
     onUnexecutable onRead supplied onCancel onReply onOrder onDateChange onNamed changed agreed reviewed permitAwaited cancelAwaited ticked
     contends switchOfDay
     givesWay sameDaySwitch isDisplaced dropOnSwitchDay isOvertaken permitOvertaken isDue lossNotice evaluation refuses standsInWay
-    notFirstIn orderKept isBlank fileKept fileBlank number premiseRows orderRows marked stepped step
+    notFirstIn orderKept isBlank fileKept fileBlank number premiseRows orderRows markedWith steppedWith stepWith
 failed [] = []
 failed (p ∷ ps) = failing (holds (p .case)) (p .name) (failed ps)

@@ -21,7 +21,7 @@ use Rattle.premise.specs.Passes.{codeReject, codeDateChange, codeAgreeme
 use Rattle.premise.specs.Refusals.{number}
 use Rattle.premise.specs.OnePremise.{startState}
 use Rattle.premise.specs.Pieces.Forms.{Piece, piece, keeps, damaged, keepsFiles, damagedFiles, unusedFiles, usedFiles, numbered}
-use Rattle.premise.specs.Pieces.Forms.{leaves, plain, nothing, stands, counted, zeros, file, enteredFile}
+use Rattle.premise.specs.Pieces.Forms.{leaves, plain, nothing, stands, counted, zeros, file, enteredFile, withWindow}
 
 -- an order by its SD and status, else in range; with a W
 abbrev inStatus : ℕ → ℕ → Order
@@ -86,10 +86,14 @@ keptOrders =
     ∷ []))
     ∷ []
 
--- a file with its fields one by one
+-- a file of window 2 with its other fields one by one
 abbrev fileOf : ℕ → ℕ → ℕ → ℕ → List Order → File
 fileOf premise retailer since count orders =
-    record { premise = premise; retailer = retailer; since = since; agreement = 0; entered = 0; count = count; orders = orders }
+    record { premise = premise; retailer = retailer; since = since; window = 2; agreement = 0; entered = 0; count = count; orders = orders }
+
+-- an unused place of the book but for some fields
+abbrev unusedOf : ℕ → ℕ → ℕ → ℕ → List Order → File
+unusedOf premise retailer since count orders = withWindow 0 (fileOf premise retailer since count orders)
 
 -- an order in range with its reference and status
 abbrev referred : ℕ → ℕ → Order
@@ -129,6 +133,9 @@ keptFiles =
     ∷ piece "not well kept: R 1,000,000,000" (damagedFiles (file 1000000000 5 [] ∷ []))
     ∷ piece "well kept: S 0 to 4,095" (keepsFiles (file 101 0 [] ∷ file 101 4095 [] ∷ []))
     ∷ piece "not well kept: S none" (damagedFiles (file 101 noDay [] ∷ []))
+    ∷ piece "well kept: a window of 1 to 5"
+    (keepsFiles (map (λ (width : ℕ). withWindow width (file 101 5 [])) (1 ∷ 2 ∷ 3 ∷ 4 ∷ 5 ∷ [])))
+    ∷ piece "not well kept: a window of 0, 6" (damagedFiles (withWindow 0 (file 101 5 []) ∷ withWindow 6 (file 101 5 []) ∷ []))
     ∷ piece "well kept: C from 0 to 999,999,999"
     (keepsFiles (withAgreement (file 101 5 []) 1 ∷ withAgreement (file 0 5 []) 999999999 ∷ []))
     ∷ piece "not well kept: C 1,000,000,000" (damagedFiles (withAgreement (file 101 5 []) 1000000000 ∷ []))
@@ -151,12 +158,12 @@ keptFiles =
     ∷ piece "well kept: the places behind the orders are zero" (keepsFiles (behind zeros ∷ []))
     ∷ piece "not well kept: a field of an unused place" (damagedFiles (map behind almost ++ map inLast almost))
     ∷ piece "not well kept: an order behind the count" (damagedFiles (behind (referred 2 scheduled) ∷ []))
-    ∷ piece "unused: every field zero" (unusedFiles (fileOf 0 0 0 0 (replicate 8 zeros) ∷ blankFile ∷ []))
+    ∷ piece "unused: every field zero" (unusedFiles (unusedOf 0 0 0 0 (replicate 8 zeros) ∷ blankFile ∷ []))
     ∷ piece "not unused: a field that is not zero"
-    (usedFiles (fileOf 1 0 0 0 (replicate 8 zeros) ∷ fileOf 0 1 0 0 (replicate 8 zeros) ∷ fileOf 0 0 1 0 (replicate 8 zeros)
-    ∷ withAgreement (fileOf 0 0 0 0 (replicate 8 zeros)) 1 ∷ enteredFile (fileOf 0 0 0 0 (replicate 8 zeros))
-    ∷ fileOf 0 0 0 1 (replicate 8 zeros) ∷ fileOf 0 0 0 0 (replicate 7 zeros)
-    ∷ map (λ (o : Order). fileOf 0 0 0 0 (replicate 7 zeros ++ (o ∷ []))) almost))
+    (usedFiles (withWindow 1 (unusedOf 0 0 0 0 (replicate 8 zeros)) ∷ unusedOf 1 0 0 0 (replicate 8 zeros) ∷ unusedOf 0 1 0 0 (replicate 8 zeros) ∷ unusedOf 0 0 1 0 (replicate 8 zeros)
+    ∷ withAgreement (unusedOf 0 0 0 0 (replicate 8 zeros)) 1 ∷ enteredFile (unusedOf 0 0 0 0 (replicate 8 zeros))
+    ∷ unusedOf 0 0 0 1 (replicate 8 zeros) ∷ unusedOf 0 0 0 0 (replicate 7 zeros)
+    ∷ map (λ (o : Order). unusedOf 0 0 0 0 (replicate 7 zeros ++ (o ∷ []))) almost))
     ∷ []
 
 unfoldable pub numbers : List Piece

@@ -1,9 +1,10 @@
--- Document 01, "Evaluation", its first line: the window.
-use Prim.Native.Nat.{ℕ, zero, suc, _+_, _-_}
+-- Document 01, "Evaluation", its first line: the window. Document 02, change 2: its widths.
+use Prim.Native.Nat.{ℕ, zero, suc, _+_, _-_, _<_}
 use mathlib.Core.Path.{_≡_}
 use mathlib.Core.List.{List}
 use mathlib.Core.Bool.{Bool, cond, _&&_}
 use lib.Dec.{leb}
+use lib.ListN.{getD, length}
 use Rattle.days.specs.Days.{isBusinessDay, isDay}
 
 -- the business days among so many days, counted from one on
@@ -19,6 +20,7 @@ businessDays calendar from to = countFrom calendar (to - from) from
 abbrev pub windowWidth : ℕ
 windowWidth = 2
 
+-- A window is 1 to 5 business days wide.
 abbrev pub mostWidth : ℕ
 mostWidth = 5
 
@@ -33,3 +35,8 @@ upTo last = λ (scheduled : ℕ). leb scheduled last
 -- The last day in window: a scheduled day is in window exactly up to it. So the window is looked for once, and not for every order.
 abbrev pub LastInWindow : List ℕ → ℕ → ℕ → ℕ → Type 0
 LastInWindow calendar width today last = (scheduled : ℕ) → inWindow calendar width today scheduled ≡ upTo last scheduled
+
+-- The last days in window of the widths 1 to the most, in this order: the first is that of width 1.
+pub record LastDays (calendar : List ℕ) (today : ℕ) (lasts : List ℕ) : Type 0 where
+  pub many : length lasts ≡ mostWidth
+  pub each : (i : ℕ) → i < mostWidth → LastInWindow calendar (i + 1) today (getD lasts i 0)

@@ -8,7 +8,7 @@ use native.Mathlib.Numerals.{add-one}
 use native.Mathlib.Omega.{arith}
 use lib.Dec.{eqb, leb}
 use lib.ListN.{length, getD}
-use borrow.Author.Tests.{lt-ltb, le-ltb, le-leb, lt-leb, eqb-true, eqb-false}
+use borrow.Author.Tests.{lt-ltb, le-ltb, le-leb, lt-leb, leb-true, leb-false, eqb-true, eqb-false}
 use Rattle.days.specs.Days.{lastDay, noDay, kindOfDay, isBusinessDay, startsSwitches, firstStart, switchDate}
 use Rattle.days.specs.Window.{countFrom, businessDays, inWindow}
 use Rattle.days.specs.Laws.{NoneBefore, FirstStart, NoStart, SwitchDateIs, PastInWindow}
@@ -61,11 +61,54 @@ module _ (calendar : List ℕ) (day to : ℕ) where
       let e : to - day ≡ suc (to - (day + 1)) = omega arith in
       rw (e, add-one day)
 
-  pub count-here : day < to → isBusinessDay calendar day ≡ true → businessDays calendar day to ≡ 1 + businessDays calendar (day + 1) to
-  count-here h e = omega (arith, count-step h, ap {B = ℕ} (λ (b : Bool). cond b 1 0) e)
+module _ (calendar : List ℕ) where
+  join-from : (many from by to : ℕ) → many ≡ by - from → from ≤ by → by ≤ to
+      → businessDays calendar from to ≡ businessDays calendar from by + businessDays calendar by to
+  join-from zero from by to e h k =
+      let same : by ≡ from = omega arith in
+      rw same (omega (arith, count-end calendar from from (omega arith)))
+  join-from (suc many) from by to e h k = omega (
+    arith,
+    join-from many (from + 1) by to (omega arith) (omega arith) k,
+    count-step calendar from to (omega arith),
+    count-step calendar from by (omega arith),
+  )
 
-  pub count-next : day < to → isBusinessDay calendar day ≡ false → businessDays calendar day to ≡ businessDays calendar (day + 1) to
-  count-next h e = omega (arith, count-step h, ap {B = ℕ} (λ (b : Bool). cond b 1 0) e)
+  -- the count up to a day and the count from it on
+  pub count-join : (from by to : ℕ) → from ≤ by → by ≤ to
+      → businessDays calendar from to ≡ businessDays calendar from by + businessDays calendar by to
+  count-join from by to = join-from (by - from) from by to refl
+
+  -- a later day has no fewer before it
+  pub count-most : (from by to : ℕ) → by ≤ to → businessDays calendar from by ≤ businessDays calendar from to
+  count-most from by to h = go (leb from by) refl
+    where
+      go : (b : Bool) → leb from by ≡ b → businessDays calendar from by ≤ businessDays calendar from to
+      go true e = omega (arith, count-join from by to (leb-true from by e) h)
+      go false e = omega (arith, count-end calendar from by (omega (arith, leb-false from by e)))
+
+-- what a day adds to the count up to it
+module _ (calendar : List ℕ) (from day : ℕ) (h : from ≤ day) where
+  count-past : businessDays calendar from (day + 1) ≡ businessDays calendar from day + cond (isBusinessDay calendar day) 1 0
+  count-past = omega (
+    arith,
+    count-join calendar from day (day + 1) h (omega arith),
+    count-step calendar day (day + 1) (omega arith),
+    count-end calendar (day + 1) (day + 1) (omega arith),
+  )
+
+  pub count-business : isBusinessDay calendar day ≡ true → businessDays calendar from (day + 1) ≡ businessDays calendar from day + 1
+  count-business e = count-past ∙ ap (λ (b : Bool). businessDays calendar from day + cond b 1 0) e
+
+  pub count-other : isBusinessDay calendar day ≡ false → businessDays calendar from (day + 1) ≡ businessDays calendar from day
+  count-other e = omega (arith, count-past, ap {B = ℕ} (λ (b : Bool). cond b 1 0) e)
+
+  pub count-one : businessDays calendar from (day + 1) ≤ businessDays calendar from day + 1
+  count-one = go (isBusinessDay calendar day) refl
+    where
+      go : (b : Bool) → isBusinessDay calendar day ≡ b → businessDays calendar from (day + 1) ≤ businessDays calendar from day + 1
+      go true e = omega (arith, count-business e)
+      go false e = omega (arith, count-other e)
 
 -- no switches start on a day, nor on those after it
 none-more : (calendar : List ℕ) (from to : ℕ) → startsSwitches calendar from ≡ false → NoneBefore calendar (suc from) to

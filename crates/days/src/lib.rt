@@ -4,6 +4,7 @@ mod kinds;
 mod searches;
 
 pub use kinds::is_business_day;
+pub use searches::last_days;
 pub use searches::last_in_window;
 pub use searches::switch_date;
 
@@ -15,3 +16,6 @@ pub const NO_DAY: u16 = 4096;
 
 // Two business days: the width of the window.
 pub const WINDOW_WIDTH: u8 = 2;
+
+// A window is 1 to 5 business days wide.
+pub const MOST_WIDTH: usize = 5;

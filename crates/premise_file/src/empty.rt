@@ -2,7 +2,7 @@
 ghost use mathlib.Core.Path.{_≡_};
 ghost use lib.ListN.{replicate};
 ghost use Rattle.premise.specs.Orders.{mostOrders, blank, blankFile};
-ghost use Rattle.premise.specs.Steps.{newFile};
+ghost use Rattle.premise.specs.Steps.{widthFor, newFile};
 use premise::BusinessDays;
 use premise::CalendarDays;
 use premise::File;
@@ -28,11 +28,12 @@ fn blank_order() -> Order
 }
 
 // A file without orders, agreement and mark.
-fn empty_file(premise: u64, retailer: u32, since: u16) -> File
+fn empty_file(premise: u64, retailer: u32, since: u16, window: u8) -> File
     ensures { λ r. ⌜ r ≡ record {
       premise = premise;
       retailer = retailer;
       since = since;
+      window = window;
       agreement = 0;
       entered = 0;
       count = 0;
@@ -44,6 +45,7 @@ fn empty_file(premise: u64, retailer: u32, since: u16) -> File
         premise: premise,
         retailer: retailer,
         since: since,
+        window: window,
         agreement: 0,
         entered: 0,
         count: 0,
@@ -55,12 +57,23 @@ fn empty_file(premise: u64, retailer: u32, since: u16) -> File
 pub fn blank_file() -> File
     ensures { λ r. ⌜ r ≡ blankFile ⌝ }
 {
-    empty_file(0, 0, 0)
+    empty_file(0, 0, 0, 0)
+}
+
+// The window that a create's detail stands for.
+fn width_for(detail: u8) -> u8
+    ensures { λ w. ⌜ w ≡ widthFor detail ⌝ }
+{
+    if detail == 0 {
+        return days::WINDOW_WIDTH;
+    }
+    detail
 }
 
 // The file that a create makes.
 pub fn new_file(r: Record) -> File
     ensures { λ f. ⌜ f ≡ newFile r ⌝ }
 {
-    empty_file(r.premise, r.retailer, r.day)
+    let window = width_for(r.detail);
+    empty_file(r.premise, r.retailer, r.day, window)
 }

@@ -11,6 +11,7 @@ pub fn file_kept(file: File) -> bool
     if !((file.premise != 0)
         & (file.retailer <= records::LAST_RETAILER)
         & (file.since <= days::LAST_DAY)
+        & ((1 <= file.window) & (file.window as usize <= days::MOST_WIDTH))
         & (file.agreement <= records::LAST_RETAILER)
         & (file.entered <= 1)
         & (file.count <= premise::MOST_ORDERS)) {

@@ -28,6 +28,7 @@ pub fn file_blank(file: File) -> bool
     if !((file.premise == 0)
         & (file.retailer == 0)
         & (file.since == 0)
+        & (file.window == 0)
         & (file.agreement == 0)
         & (file.entered == 0)
         & (file.count == 0)) {

@@ -8,6 +8,7 @@ use borrow.Author.Tests.{eq-eqb, leb-true, not-true, not-false}
 use Rattle.lists.specs.Search.{allOf}
 use Rattle.lists.proofs.TestLaws.{and-right}
 use Rattle.days.specs.Days.{isDay}
+use Rattle.days.specs.Window.{mostWidth}
 use Rattle.records.specs.Records.{aPremise, aRetailerOrNone}
 use Rattle.premise.specs.declared.File.{File}
 use Rattle.premise.specs.Orders.{mostOrders, held}
@@ -16,8 +17,8 @@ use Rattle.premise.specs.WellKept.{orderKept, distinct, isBlank, fileKept}
 module _ (f : File) where
   -- the fields besides the orders and their number
   abbrev fieldsKept : Bool
-  fieldsKept = aPremise (f .premise) && aRetailerOrNone (f .retailer) && isDay (f .since) && aRetailerOrNone (f .agreement) && leb
-      (f .entered) 1
+  fieldsKept = aPremise (f .premise) && aRetailerOrNone (f .retailer) && isDay (f .since) && (leb 1 (f .window) && leb (f .window) mostWidth)
+      && aRetailerOrNone (f .agreement) && leb (f .entered) 1
 
   -- the fields besides the orders
   abbrev pub headKept : Bool

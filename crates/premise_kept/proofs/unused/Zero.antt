@@ -19,8 +19,8 @@ use Rattle.premise.specs.WellKept.{isBlank, fileBlank}
 module _ (f : File) where
   -- the fields besides the orders
   abbrev headBlank : Bool
-  headBlank = eqb (f .premise) 0 && eqb (f .retailer) 0 && eqb (f .since) 0 && eqb (f .agreement) 0 && eqb (f .entered) 0 && eqb
-      (f .count) 0
+  headBlank = eqb (f .premise) 0 && eqb (f .retailer) 0 && eqb (f .since) 0 && eqb (f .window) 0
+      && eqb (f .agreement) 0 && eqb (f .entered) 0 && eqb (f .count) 0
 
   pub head-used : not headBlank ≡ true → false ≡ fileBlank f
   unfolding fileBlank

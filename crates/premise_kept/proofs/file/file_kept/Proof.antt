@@ -43,6 +43,9 @@ Inv-unused file n i₀ i = PlacesLeft (file .orders) (fileKept file) i
 abbrev μ-unused : tie.MeasureT-unused
 μ-unused file n i₀ i = mostOrders - i
 
+cast-if1 : tie.Need-cast-if1 Inv-later μ-later Inv-held μ-held Inv-unused μ-unused
+cast-if1 c = search needs
+
 returns : tie.Need-returns Inv-later μ-later Inv-held μ-held Inv-unused μ-unused
 returns c = kept-no-head (c .before .args .t1) (c .if1 .taken)
 
@@ -161,6 +164,7 @@ file-kept-spec =
     μ-held
     Inv-unused
     μ-unused
+    cast-if1
     returns
     held-holds
     mul-o

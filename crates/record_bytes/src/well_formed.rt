@@ -4,6 +4,7 @@ ghost use Prim.Native.Nat.{_≤_};
 ghost use Rattle.records.specs.Records.{wellFormed, kindScheduled, kindReply, orderDay, aRetailer};
 ghost use Rattle.records.specs.Kinds.{datedHolds};
 use days::LAST_DAY;
+use days::MOST_WIDTH;
 use records::DELETE;
 use records::ESTABLISH;
 use records::LAST_RETAILER;
@@ -76,7 +77,7 @@ fn order_day_holds(kind: u8, day: u16) -> bool
     }
 }
 
-// Dispatch on the record kind. A create uses the day, the premise, and a retailer or none; a retire the premise; a new order every field,
+// Dispatch on the record kind. A create uses the detail, its window, the day, the premise, and a retailer or none; a retire the premise; a new order every field,
 // its detail the order kind; a day mark the day; a date change all but the detail, with a counter, which is not 0, in the retailer's place;
 // an agreement the premise and the retailer, its detail whether it is established or deleted.
 pub fn well_formed(fields: Record) -> bool
@@ -85,7 +86,7 @@ pub fn well_formed(fields: Record) -> bool
     let kind = fields.kind;
     match kind {
         record_kind::CREATE => {
-            (fields.detail == 0)
+            (fields.detail as usize <= MOST_WIDTH)
                 & (fields.day <= LAST_DAY)
                 & (fields.reference == 0)
                 & (fields.premise != 0)

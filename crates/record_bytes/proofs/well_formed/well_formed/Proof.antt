@@ -9,6 +9,9 @@ use Rattle.records.proofs.ByKind.{formed-at, formed-past}
 use Rattle.record_bytes.proofs.well_formed.well_formed.Statement.{statement}
 use Rattle.record_bytes.proofs.well_formed.well_formed.Tie as tie
 
+cast-result : tie.Need-cast-result
+cast-result c = search needs
+
 order-day-holds-requires : tie.Need-order-day-holds-requires
 order-day-holds-requires c κs = search needs
 
@@ -55,5 +58,5 @@ returns-9 c = sym (formed-past _ (omega arith))
 
 pub well-formed-spec : {M : Type 1} → statement M
 well-formed-spec =
-    tie.close (tie.spec order-day-holds-requires is-retailer-requires is-retailer-requires-2 named-order-holds-requires returns returns-2
+    tie.close (tie.spec cast-result order-day-holds-requires is-retailer-requires is-retailer-requires-2 named-order-holds-requires returns returns-2
     returns-3 returns-4 returns-5 returns-6 returns-7 returns-8 returns-9)

@@ -3,6 +3,7 @@ use Prim.Native.Nat.{ℕ}
 use mathlib.Core.Path.{_≡_, refl, subst, subst⁻¹}
 use mathlib.Core.List.{List, []}
 use native.Mathlib.Omega.{arith}
+use Rattle.days.specs.Window.{LastInWindow}
 use Rattle.premise.specs.declared.Order.{Order}
 use Rattle.premise.specs.declared.File.{File}
 use Rattle.premise.specs.declared.FileAfter.{FileAfter}
@@ -50,3 +51,8 @@ pub pass-tidy : (step : ℕ → Order → Change) {f : File} → Tidy f → {sta
 pass-tidy step {f} tidy done =
     subst⁻¹ Tidy (done .file)
     (tidy-with f (pass step (held f) .orders) (omega (arith, length-pass step 0 (held f), length-held f tidy, tidy .few)))
+
+-- a file with the same width has the same last day in window
+pub same-window : (calendar : List ℕ) (today last : ℕ) (f g : File) → g .window ≡ f .window → LastInWindow calendar (f .window) today last
+    → LastInWindow calendar (g .window) today last
+same-window calendar today last f g e window = subst⁻¹ (λ (width : ℕ). LastInWindow calendar width today last) e window

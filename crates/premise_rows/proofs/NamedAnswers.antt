@@ -6,7 +6,7 @@ use mathlib.Core.Option.{some}
 use mathlib.Core.Bool.{Bool, true, false, not, _||_, and-false}
 use lib.ListN.{getD}
 use Rattle.lists.specs.declared.Found.the-variants.{At, Nothing}
-use Rattle.days.specs.Window.{windowWidth, inWindow, upTo, LastInWindow}
+use Rattle.days.specs.Window.{inWindow, upTo, LastInWindow}
 use Rattle.days.proofs.LastInWindow.{window-is-up-to}
 use Rattle.records.specs.declared.Record.{Record}
 use Rattle.records.specs.Records.{kindCreate, kindRetire, kindNewOrder, kindDayMark, kindAgreement}
@@ -51,7 +51,7 @@ module _ (calendar : List ℕ) (today : ℕ) (f : File) (r : Record) (names : na
       (row NoSuchOrder (isNothing (named r (held f)) || isForeign r (orderAt (held f) (named r (held f))))
       ∷ row StatusNotTaken (not (taken r (orderAt (held f) (named r (held f)))))
       ∷ row CounterNotAbove (notAbove r (orderAt (held f) (named r (held f))))
-      ∷ row OrderInWindow (isTooLate (inWindow calendar windowWidth today) r (orderAt (held f) (named r (held f))))
+      ∷ row OrderInWindow (isTooLate (inWindow calendar (f .window) today) r (orderAt (held f) (named r (held f))))
       ∷ [])
   unfolding premiseRows orderRows
   rows-left =
@@ -68,9 +68,9 @@ module _ (calendar : List ℕ) (today : ℕ) (f : File) (r : Record) (names : na
   pub missing-answer : named r (held f) ≡ Nothing → firstRow (rows calendar today (some f) r) ≡ NoSuchOrder
   missing-answer n = rows-left ∙ rw n
 
-  pub named-answer : (i : ℕ) → named r (held f) ≡ At i → (last : ℕ) → LastInWindow calendar windowWidth today last
+  pub named-answer : (i : ℕ) → named r (held f) ≡ At i → (last : ℕ) → LastInWindow calendar (f .window) today last
       → firstRow (rows calendar today (some f) r) ≡ namedAnswer (upTo last) r (getD (held f) i blank)
   unfolding namedAnswer
   named-answer i n last window =
       rows-left ∙ (rw n)
-      ∙ ap (λ (near : ℕ → Bool). namedAnswer near r (getD (held f) i blank)) (window-is-up-to calendar windowWidth today last window)
+      ∙ ap (λ (near : ℕ → Bool). namedAnswer near r (getD (held f) i blank)) (window-is-up-to calendar (f .window) today last window)

@@ -6,7 +6,7 @@ use mathlib.Core.Bool.{false}
 use lib.Dec.{eqb}
 use lib.ListN.{getD}
 use Rattle.lists.specs.Search.{countOf}
-use Rattle.days.specs.Window.{windowWidth, LastInWindow}
+use Rattle.days.specs.Window.{LastInWindow}
 use Rattle.records.specs.declared.Record.{Record}
 use Rattle.premise.specs.declared.File.{File}
 use Rattle.premise.specs.Orders.{mostOrders, isOpen, blank, held}
@@ -21,7 +21,7 @@ pub record AtPlace (calendar : List ℕ) (today last : ℕ) (f : File) (r : Reco
   pub tidy : Tidy f
   pub within : i < f .count
   pub room : Room standing (followed (changed calendar today f r i (getD (held f) i blank)) (evaluated calendar today) .notices) buffer
-  pub window : LastInWindow calendar windowWidth today last
+  pub window : LastInWindow calendar (f .window) today last
 
 -- a new order, which finds a place on the stack and whose requested day is known
 pub record WithPlace (calendar : List ℕ) (today : ℕ) (f : File) (r : Record) (requested standing : ℕ) (buffer : List ℕ) : Type 0 where

@@ -61,7 +61,7 @@ fn on_order(
     ensures { λ p. ⌜ Answered (givenOn (now (calendar .entry)) today (some file) r)
         standing p (now (buffer .entry)) (now (buffer .exit)) ⌝ }
 {
-    let last = days::last_in_window(calendar, days::WINDOW_WIDTH, today);
+    let last = days::last_in_window(calendar, file.window, today);
     let answer = premise_rows::named_answer(last, file, r, i);
     if is_refusal(answer) {
         return reply(answer, file, standing);

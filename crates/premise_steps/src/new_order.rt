@@ -40,7 +40,7 @@ fn accept_order(
     ensures { λ p. ⌜ DoneToFile (followed (ordered (now (calendar .entry)) today file r) (evaluated (now (calendar .entry)) today))
         standing p (now (buffer .entry)) (now (buffer .exit)) ⌝ }
 {
-    let last = days::last_in_window(calendar, days::WINDOW_WIDTH, today);
+    let last = days::last_in_window(calendar, file.window, today);
     let o = premise_rows::new_order(calendar, today, r, requested);
     let code = code_for(r.detail);
     let n = premise_notices::notice_on(code, file.premise, records::TDSP, o);

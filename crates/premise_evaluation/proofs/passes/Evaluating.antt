@@ -73,7 +73,7 @@ module _ {calendar : List ℕ} {today last : ℕ} {f : File} {standing : ℕ} {b
 
   -- by the last day in window
   through : evaluated calendar today f ≡ throughLosses (upTo last) today f
-  through = evaluated-by-last calendar today last (asked .window) f ∙ evaluated-through (upTo last) today f
+  through = evaluated-by-last calendar today last f (asked .window) ∙ evaluated-through (upTo last) today f
 
   room-losses : Room standing (throughLosses (upTo last) today f .notices) b
   room-losses = subst (λ (e : Effect). Room standing (e .notices) b) through (asked .room)

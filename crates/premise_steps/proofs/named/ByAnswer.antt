@@ -7,7 +7,7 @@ use mathlib.Core.Bool.{true, false}
 use lib.ListN.{getD}
 use borrow.Author.Tests.{not-true, not-false}
 use Rattle.lists.specs.declared.Found.the-variants.{At, Nothing}
-use Rattle.days.specs.Window.{windowWidth, upTo, LastInWindow}
+use Rattle.days.specs.Window.{upTo, LastInWindow}
 use Rattle.records.specs.declared.Record.{Record}
 use Rattle.records.specs.Records.{kindRetire, kindNewOrder, kindDayMark, kindAgreement}
 use Rattle.premise.specs.declared.File.{File}
@@ -17,7 +17,7 @@ use Rattle.premise.specs.Orders.{blank, held}
 use Rattle.premise.specs.Steps.{named, changed}
 use Rattle.premise.specs.Evaluation.{evaluated}
 use Rattle.premise.specs.Refusals.{number, firstRow, rows, namesOrder}
-use Rattle.premise.specs.OnePremise.{followed, stepped, refused, leaving, step}
+use Rattle.premise.specs.OnePremise.{followed, stepped, refused, leaving, step, steppedWith}
 use Rattle.premise_steps.specs.Answering.{isRefusal}
 use Rattle.premise_steps.proofs.replies.Decided.{on, refused-by, accepted-by}
 use Rattle.premise.proofs.KindsOf.{names-other}
@@ -29,7 +29,7 @@ module _ (calendar : List ℕ) (today : ℕ) (f : File) (r : Record) (names : na
   unfolding number
   named-missing n = refused-by calendar today (some f) r NoSuchOrder (missing-answer calendar today f r names n) refl
 
-  module _ (i : ℕ) (n : named r (held f) ≡ At i) (last : ℕ) (window : LastInWindow calendar windowWidth today last) (answer : Answer)
+  module _ (i : ℕ) (n : named r (held f) ≡ At i) (last : ℕ) (window : LastInWindow calendar (f .window) today last) (answer : Answer)
       (a : answer ≡ namedAnswer (upTo last) r (getD (held f) i blank)) where
     decided : firstRow (rows calendar today (some f) r) ≡ answer
     decided = named-answer calendar today f r names i n last window ∙ sym a
@@ -40,7 +40,7 @@ module _ (calendar : List ℕ) (today : ℕ) (f : File) (r : Record) (names : na
     pub named-done : isRefusal answer ≡ false
         → step calendar (on today (some f)) r
         ≡ leaving today (followed (changed calendar today f r i (getD (held f) i blank)) (evaluated calendar today))
-    unfolding stepped
+    unfolding steppedWith
     named-done h =
         accepted-by calendar today (some f) r answer decided (not-false _ h)
         ∙ simp (

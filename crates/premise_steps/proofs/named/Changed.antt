@@ -34,6 +34,12 @@ module _ (f : File) (r : Record) (o : Order) where
       (supply-by (λ (g : File). Tidy g × (i < g .count)) (tidy, b)
       (λ retailer since entered. (tidy-supply f tidy retailer since entered, b)))
 
+  -- the width stays too
+  pub changed-window : {h : File} → h ≡ supplied f r o → (os : List Order) {g : File} → g ≡ withOrders h os → g .window ≡ f .window
+  changed-window e os q =
+      ap (λ (x : File). x .window) q ∙ ap (λ (x : File). x .window) e
+      ∙ supply-by (λ (g : File). g .window ≡ f .window) refl (λ retailer since entered. refl)
+
 pub changed-tidy : (h : File) → Tidy h → (i : ℕ) (t : Order) (g : File) → g ≡ withOrders h (set (held h) i t) → Tidy g
 changed-tidy h tidy i t g e = subst⁻¹ Tidy e (tidy-set h tidy i t)
 

@@ -15,7 +15,7 @@ use Rattle.premise.specs.Orders.{mostOrders, isOpen, held}
 use Rattle.premise.specs.Steps.{requestedDay, ordered}
 use Rattle.premise.specs.Evaluation.{evaluated}
 use Rattle.premise.specs.Refusals.{number}
-use Rattle.premise.specs.OnePremise.{followed, stepped, refused, leaving, step}
+use Rattle.premise.specs.OnePremise.{followed, stepped, refused, leaving, step, steppedWith}
 use Rattle.premise_steps.specs.Answering.{isRefusal}
 use Rattle.premise_steps.proofs.replies.Decided.{on, refused-by, accepted-by}
 use Rattle.premise_rows.specs.NewOrderRows.{orderAnswer}
@@ -29,7 +29,7 @@ module _ (calendar : List ℕ) (today : ℕ) (f : File) (r : Record) (e : r .kin
 
   module _ (h : isRefusal answer ≡ false) where
     pub order-done : step calendar (on today (some f)) r ≡ leaving today (followed (ordered calendar today f r) (evaluated calendar today))
-    unfolding stepped
+    unfolding steppedWith
     order-done = accepted-by calendar today (some f) r answer (order-answer calendar today f r e requested q ∙ sym a) (not-false _ h) ∙ rw e
 
     pub order-free : eqb (countOf isOpen (held f)) mostOrders ≡ false

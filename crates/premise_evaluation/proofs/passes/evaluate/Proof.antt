@@ -24,7 +24,7 @@ returns-2 c =
     let s = w .before .before .before in
     let a = s .args in
     done-nothing _ (a .file) (a .standing) (a .buffer .now)
-    (evaluated-still (a .calendar .now) (a .today) (a .last) (s .pre .window) (a .file) (s .pre .tidy)
+    (evaluated-still (a .calendar .now) (a .today) (a .last) (a .file) (s .pre .window) (s .pre .tidy)
     (sym (w .changes-file .ensures) ∙ c .if1 .left))
 
 pub evaluate-spec : {M : Type 1} → statement M

@@ -1,13 +1,13 @@
 -- `accept_named` meets its contract: the file with the order changed in its place and its notices, and then the evaluation on
 -- it. Assumes nothing.
 use borrow.Author.Needs.{needs}
-use lib.ListN.{getD}
+use lib.ListN.{getD, set}
 use Rattle.premise.specs.Orders.{blank, held}
 use Rattle.premise.specs.Steps.{changed}
 use Rattle.premise.specs.Evaluation.{evaluated}
 use Rattle.premise_laws.proofs.FileOrders.{at-held}
-use Rattle.premise_laws.proofs.Then.{then-first, then-room, then-done}
-use Rattle.premise_steps.proofs.named.Changed.{supplied-ready, changed-room, changed-tidy, changed-done}
+use Rattle.premise_laws.proofs.Then.{then-first, then-room, then-done, same-window}
+use Rattle.premise_steps.proofs.named.Changed.{supplied-ready, changed-room, changed-tidy, changed-done, changed-window}
 use Rattle.premise_steps.proofs.named.accept_named.Statement.{statement}
 use Rattle.premise_steps.proofs.named.accept_named.Tie as tie
 
@@ -52,7 +52,9 @@ evaluate-requires c κs =
       tidy = changed-tidy (h .supply .result) (ready .0) (a .i) (q .change-order .result .order) (g .with-order .result)
           (g .with-order .ensures);
       room = then-room (evaluated (a .calendar .now) (a .today)) d (s .pre .room);
-      window = s .pre .window;
+      window = same-window (a .calendar .now) (a .today) (a .last) f (g .with-order .result)
+          (changed-window f (a .r) (getD (f .orders) (a .i) blank) (h .supply .ensures)
+          (set (held (h .supply .result)) (a .i) (q .change-order .result .order)) (g .with-order .ensures)) (s .pre .window);
     }
 
 same-length : tie.Need-same-length

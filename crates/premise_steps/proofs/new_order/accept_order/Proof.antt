@@ -1,9 +1,11 @@
 -- `accept_order` meets its contract: the file with the new order and its notice, and then the evaluation on it. Assumes
 -- nothing.
+use mathlib.Core.Path.{ap}
 use borrow.Author.Needs.{needs}
+use Rattle.premise.specs.declared.File.{File}
 use Rattle.premise.specs.Steps.{ordered}
 use Rattle.premise.specs.Evaluation.{evaluated}
-use Rattle.premise_laws.proofs.Then.{then-first, then-room, then-done}
+use Rattle.premise_laws.proofs.Then.{then-first, then-room, then-done, same-window}
 use Rattle.premise_steps.proofs.new_order.Ordered.{ordered-tidy, ordered-done}
 use Rattle.premise_steps.proofs.new_order.accept_order.Statement.{statement}
 use Rattle.premise_steps.proofs.new_order.accept_order.Tie as tie
@@ -46,7 +48,8 @@ evaluate-requires c κs =
     record {
       tidy = ordered-tidy (a .file) (s .pre .tidy) (s .pre .place) (j .new-order .result) (m .admit .result) (m .admit .ensures);
       room = then-room (evaluated (a .calendar .now) (a .today)) d (s .pre .room);
-      window = j .before .last-in-window .ensures;
+      window = same-window (a .calendar .now) (a .today) (j .before .last-in-window .result) (a .file) (m .admit .result)
+          (ap (λ (f : File). f .window) (m .admit .ensures)) (j .before .last-in-window .ensures);
     }
 
 same-length : tie.Need-same-length

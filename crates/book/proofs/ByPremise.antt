@@ -16,7 +16,8 @@ use Rattle.premise.specs.Steps.{is}
 use Rattle.premise.specs.Refusals.{firstRow}
 use Rattle.premise.specs.OnePremise.{step, refused}
 use Rattle.book.specs.declared.Book.{Book}
-use Rattle.book.specs.Calls.{noticeBytes, recordRows, premiseState, Result, refusal, call, meetsRow6, onDayMark, inBook, asOne, callWith}
+use Rattle.book.specs.Calls.{noticeBytes, recordRows, premiseState, Result, refusal, call, meetsRow6, onDayMark, inBook, asOne}
+use Rattle.book.specs.Calls.{callWith}
 use Rattle.book.specs.Laws.{BookKept}
 use Rattle.book.proofs.Kept.{book-kept-means}
 use Rattle.book.proofs.Rows.{record-decides, refusing}

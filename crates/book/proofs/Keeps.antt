@@ -27,7 +27,8 @@ use Rattle.premise_laws.proofs.KeptSteps.{step-keeps}
 use Rattle.premise.proofs.Answers.{only-create-makes, holds}
 use Rattle.book.specs.declared.Book.{Book}
 use Rattle.book.specs.Book.{mostFiles, filesOf, bookKept, fileFor, putIn, withFile}
-use Rattle.book.specs.Calls.{recordRows, callRows, markedFiles, premiseState, Result, onPremise, onReading, call, markedBook, callWith}
+use Rattle.book.specs.Calls.{recordRows, callRows, markedFiles, premiseState, Result, onPremise, onReading, call, markedBook}
+use Rattle.book.specs.Calls.{callWith}
 use Rattle.book.specs.Laws.{BookKept, CallKeeps}
 use Rattle.book.proofs.Files.{found-has, rises-rising, rising-rises}
 use Rattle.book.proofs.FilesPut.{put-length, put-held}

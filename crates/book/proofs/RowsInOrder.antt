@@ -54,7 +54,8 @@ rows-of-record calendar b bytes lent r e =
     first-two calendar b bytes lent ∙ ap (λ (d : Reading). 1 ∷ 2 ∷ rowNumbers (recordRows calendar b d)) e
     ∙ ap₂ (λ (n : ℕ) (ns : List ℕ). 1 ∷ 2 ∷ n ∷ ns) malformed-is-3
     (map-append (λ (x : Row). number (x .answer)) (premiseRows file r) (full ∷ later)
-    ∙ ap₂ _++_ (premise-row-numbers file r) (ap₂ _∷_ full-is-6 (order-row-numbers (widthIn keptWidth file) calendar (b .today) (ordersOf file) r)))
+    ∙ ap₂ _++_ (premise-row-numbers file r) (ap₂ _∷_ full-is-6 (order-row-numbers (widthIn keptWidth file) calendar (b .today)
+    (ordersOf file) r)))
 
 -- ---- rows 1 and 2 come first
 module _ (calendar : List ℕ) (b : Book) (bytes lent : List ℕ) where

@@ -61,7 +61,8 @@ record AllComputed : Type 0 where
 
 computed : AllComputed
 unfolding reviewed permitAwaited cancelAwaited ticked contends switchOfDay givesWay sameDaySwitch isDisplaced dropOnSwitchDay isOvertaken
-    permitOvertaken isDue lossNotice evaluation refuses standsInWay notFirstIn markedWith steppedWith stepWith places number premiseRows orderRows
+    permitOvertaken isDue lossNotice evaluation refuses standsInWay notFirstIn markedWith steppedWith stepWith places number premiseRows
+    orderRows
     requestedDay makeRoom ordered taken onScheduled onPermit onUnexecutable onRead supplied onCancel onReply onOrder onDateChange onNamed
     changed agreed orderKept isBlank fileKept fileBlank fieldOf encode wellFormed reading kindOfDay isBusinessDay switchDate businessDays
     inWindow

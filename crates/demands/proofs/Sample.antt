@@ -35,7 +35,8 @@ use Rattle.demands.specs.Sample.{ordered5, changed5, dated5, losing5, bu
 -- ---- the sample
 pub comes : Comes
 unfolding reviewed permitAwaited cancelAwaited ticked contends switchOfDay givesWay sameDaySwitch isDisplaced dropOnSwitchDay isOvertaken
-    permitOvertaken isDue lossNotice evaluation refuses standsInWay notFirstIn markedWith steppedWith stepWith places number premiseRows orderRows
+    permitOvertaken isDue lossNotice evaluation refuses standsInWay notFirstIn markedWith steppedWith stepWith places number premiseRows
+    orderRows
     requestedDay makeRoom ordered taken onScheduled onPermit onUnexecutable onRead supplied onCancel onReply onOrder onDateChange onNamed
     changed agreed orderKept isBlank fileKept fileBlank fieldOf encode wellFormed reading kindOfDay isBusinessDay switchDate businessDays
     inWindow

@@ -31,11 +31,13 @@ use Rattle.demands.proofs.Shares.{no-retailer-fills, room-for-others}
 
 pub comes : Comes
 unfolding reviewed permitAwaited cancelAwaited ticked contends switchOfDay givesWay sameDaySwitch isDisplaced dropOnSwitchDay isOvertaken
-    permitOvertaken isDue lossNotice evaluation refuses standsInWay notFirstIn markedWith steppedWith stepWith places number premiseRows orderRows
+    permitOvertaken isDue lossNotice evaluation refuses standsInWay notFirstIn markedWith steppedWith stepWith places number premiseRows
+    orderRows
     requestedDay makeRoom ordered taken onScheduled onPermit onUnexecutable onRead supplied onCancel onReply onOrder onDateChange onNamed
     changed agreed orderKept isBlank fileKept fileBlank fieldOf encode wellFormed reading kindOfDay isBusinessDay switchDate businessDays
     inWindow
-    bookOf bookKept fileFor putIn takenOut callRowsWith callWith lent made plays create7 dropOf beginning tape sample third dropped file7 found
+    bookOf bookKept fileFor putIn takenOut callRowsWith callWith lent made plays create7 dropOf beginning tape sample third dropped file7
+    found
 comes = record {
   answered = refl;
   shares = refl;

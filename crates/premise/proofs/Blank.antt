@@ -47,7 +47,8 @@ blank-means f = (to, λ e. rw e)
     to h =
         let k =
         pass-each (eqb (f .premise) 0)
-        (eqb (f .retailer) 0 ∷ eqb (f .since) 0 ∷ eqb (f .window) 0 ∷ eqb (f .agreement) 0 ∷ eqb (f .entered) 0 ∷ eqb (f .count) 0 ∷ eqb (length (f .orders)) mostOrders
+        (eqb (f .retailer) 0 ∷ eqb (f .since) 0 ∷ eqb (f .window) 0 ∷ eqb (f .agreement) 0 ∷ eqb (f .entered) 0 ∷ eqb (f .count) 0 ∷ eqb
+        (length (f .orders)) mostOrders
         ∷ allOf isBlank (f .orders) ∷ []) h in
         let long = eqb-true (length (f .orders)) mostOrders (k .1 .1 .1 .1 .1 .1 .1 .0) in
         let orders = all-are isBlank blank blank-is (f .orders) (k .1 .1 .1 .1 .1 .1 .1 .1 .0) ∙ ap (λ (n : ℕ). replicate n blank) long in

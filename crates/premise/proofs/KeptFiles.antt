@@ -103,8 +103,22 @@ file-test f k =
     let few = le-leb (f .count) mostOrders (k .tidy .few) in
     let long = eq-eqb (length (f .orders)) mostOrders (length-orders f (k .tidy)) in
     let unused = ap (allOf isBlank) (unused-of f (k .tidy)) ∙ all-same isBlank blank blank-passes (mostOrders - length (held f)) in
-    each-pass (aPremise (f .premise)) (tests f)
-    (k .premise, (k .retailer, (k .since, (k .window, (k .agreement, (k .entered, (few, (long, (k .orders, (k .references, (unused, tt)))))))))))
+    each-pass (aPremise (f .premise)) (tests f) (
+      k .premise,
+      (
+        k .retailer,
+        (
+          k .since,
+          (
+            k .window,
+            (
+              k .agreement,
+              (k .entered, (few, (long, (k .orders, (k .references, (unused, tt)))))),
+            ),
+          ),
+        ),
+      ),
+    )
 
 pub kept-means : KeptMeans
 kept-means f = (file-facts f, file-test f)

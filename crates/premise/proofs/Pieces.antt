@@ -181,5 +181,7 @@ pub set-pieces : failed pieces ≡ []
 set-pieces = (limits-hold also reviews-hold also permits-hold also switches-hold also tape-hold also created-hold also ordered-hold also
     scheduledOrPermitted-hold also unexecuteds-hold also readings-hold also cancels-hold also evaluations-hold also reviewsEnd-hold also
     permitsEnd-hold also cancelsEnd-hold also sameDay-hold also drops-hold also overtaken-hold also losing-hold also firstIn-hold also
-    statuses-hold also premises-hold also dayLimits-hold also stacks-hold also shares-hold also redates-hold also redatedOnTape-hold also redatesRefused-hold also agreements-hold also agreementsTold-hold also agreementsOnTape-hold also oneDay-hold also windows-hold also keptOrders-hold also keptFiles-hold also
+    statuses-hold also premises-hold also dayLimits-hold also stacks-hold also shares-hold also redates-hold also redatedOnTape-hold
+    also redatesRefused-hold also agreements-hold also agreementsTold-hold also agreementsOnTape-hold also oneDay-hold also windows-hold
+    also keptOrders-hold also keptFiles-hold also
     numbers-hold) .none

@@ -14,7 +14,16 @@ use Rattle.premise.proofs.KeptFiles.{length-held, length-orders}
 -- a file with its count and its places set
 abbrev pub withPlaces : File → ℕ → List Order → File
 withPlaces f n l =
-    record { premise = f .premise; retailer = f .retailer; since = f .since; window = f .window; agreement = f .agreement; entered = f .entered; count = n; orders = l }
+    record {
+      premise = f .premise;
+      retailer = f .retailer;
+      since = f .since;
+      window = f .window;
+      agreement = f .agreement;
+      entered = f .entered;
+      count = n;
+      orders = l;
+    }
 
 module _ (f : File) (tidy : Tidy f) where
   -- with its own orders a file is the same file

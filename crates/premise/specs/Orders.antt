@@ -227,7 +227,16 @@ withAgreement f agreement =
 
 -- a file of which every field is zero: an unused place of the book
 abbrev pub blankFile : File
-blankFile = record { premise = 0; retailer = 0; since = 0; window = 0; agreement = 0; entered = 0; count = 0; orders = replicate mostOrders blank }
+blankFile = record {
+  premise = 0;
+  retailer = 0;
+  since = 0;
+  window = 0;
+  agreement = 0;
+  entered = 0;
+  count = 0;
+  orders = replicate mostOrders blank;
+}
 
 -- A width for every file: the one that it keeps, or one number throughout. Document 02, change 2, compares the two.
 abbrev pub keptWidth : File → ℕ

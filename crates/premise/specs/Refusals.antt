@@ -127,8 +127,8 @@ premiseRows file r =
     ∷ row PremiseHeld (is kindCreate r && isHeld file)
     ∷ []
 
--- Rows 7 to 15, by the file's orders and its width. Document 02, change 12: "26 when a new order's Q already has 4 or more open orders at the premise,
--- after 11 and before 12; it is among the one-premise rows." Change 1: "16 when .., after 14. 17 when .., after 16."
+-- Rows 7 to 15, by the file's orders and its width. Document 02, change 12: "26 when a new order's Q already has 4 or more open orders at
+-- the premise, after 11 and before 12; it is among the one-premise rows." Change 1: "16 when .., after 14. 17 when .., after 16."
 unfoldable pub orderRows : ℕ → List ℕ → ℕ → List Order → Record → List Row
 orderRows width calendar today os r =
     row OrderOpen (is kindRetire r && anyOf isOpen os)

@@ -63,7 +63,8 @@ isBlank o =
     && eqb (o .told) 0
     && eqb (o .counter) 0
 
--- A file is well kept. Document 02, change 2: "The file keeps the width from 1 to 5, and a book with another width isn't well kept." (It has eight places by its type; the definition, over lists, says so.)
+-- A file is well kept. Document 02, change 2: "The file keeps the width from 1 to 5, and a book with another width isn't well kept." (It
+-- has eight places by its type; the definition, over lists, says so.)
 unfoldable pub fileKept : File → Bool
 fileKept f =
     aPremise (f .premise)

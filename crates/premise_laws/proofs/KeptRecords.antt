@@ -56,7 +56,8 @@ fields details days references premises retailers r h =
 
 module _ (r : Record) (w : wellFormed r ≡ true) where
   pub create-fits : is kindCreate r ≡ true → Fits aWindow isDay unused aPremise aRetailerOrNone r
-  create-fits e = fields aWindow isDay unused aPremise aRetailerOrNone r (sym (formed-at kindCreate r (eqb-true (r .kind) kindCreate e)) ∙ w)
+  create-fits e = fields aWindow isDay unused aPremise aRetailerOrNone r
+      (sym (formed-at kindCreate r (eqb-true (r .kind) kindCreate e)) ∙ w)
 
   pub order-fits : is kindNewOrder r ≡ true → Fits anOrderKind (orderDay (r .detail)) aReference aPremise aRetailer r
   order-fits e = fields anOrderKind (orderDay (r .detail)) aReference aPremise aRetailer r

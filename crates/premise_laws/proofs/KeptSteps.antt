@@ -42,7 +42,8 @@ names-order : (r : Record) → wellFormed r ≡ true → is kindCreate r ≡ fal
 names-order r w c t n d a = go (is kindDateChange r) refl
   where
     go : (change : Bool) → is kindDateChange r ≡ change → namesOrder r ≡ true
-    go true e = ap (λ (x : Bool). leb kindScheduled (r .kind) && leb (r .kind) kindReply || x) e ∙ or-true (leb kindScheduled (r .kind) && leb (r .kind) kindReply)
+    go true e = ap (λ (x : Bool). leb kindScheduled (r .kind) && leb (r .kind) kindReply || x) e ∙ or-true
+        (leb kindScheduled (r .kind) && leb (r .kind) kindReply)
     go false e =
         let k = formed r w .kind in
         ap₂ (λ (x y : Bool). x && y || is kindDateChange r)

@@ -4,7 +4,8 @@ use mathlib.Core.List.{List, [], _∷_}
 use mathlib.Core.Bool.{Bool, false, _&&_}
 use Rattle.days.specs.Days.{isDay}
 use Rattle.records.specs.declared.Record.{Record}
-use Rattle.records.specs.Records.{unused, aReference, aPremise, aRetailer, aRetailerOrNone, aCounter, anOrderKind, aReply, anAgreement}
+use Rattle.records.specs.Records.{unused, aReference, aPremise, aRetailer, aRetailerOrNone, aCounter, anOrderKind, aReply}
+use Rattle.records.specs.Records.{anAgreement}
 use Rattle.records.specs.Records.{aWindow, orderDay}
 
 -- what the fields beside the kind may hold

@@ -41,8 +41,8 @@ ARetailerOrNone n = n ≤ lastRetailer
 abbrev pub AWindow : ℕ → Type 0
 AWindow n = n ≤ mostWidth
 
--- F and a counter have 32 bits and P 64, and none is 0. The tests ask "not 0" and leave the bits to the fields: of what goes into its field they say
--- document 01's whole range.
+-- F and a counter have 32 bits and P 64, and none is 0. The tests ask "not 0" and leave the bits to the fields: of what goes into its field
+-- they say document 01's whole range.
 abbrev pub SaysRange : (ℕ → Bool) → Field → ℕ → Type 0
 SaysRange test field last = (n : ℕ) → GoesInto field n → (test n ≡ true) ↔ UpTo last n
 

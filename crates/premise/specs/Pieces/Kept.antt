@@ -160,7 +160,8 @@ keptFiles =
     ∷ piece "not well kept: an order behind the count" (damagedFiles (behind (referred 2 scheduled) ∷ []))
     ∷ piece "unused: every field zero" (unusedFiles (unusedOf 0 0 0 0 (replicate 8 zeros) ∷ blankFile ∷ []))
     ∷ piece "not unused: a field that is not zero"
-    (usedFiles (withWindow 1 (unusedOf 0 0 0 0 (replicate 8 zeros)) ∷ unusedOf 1 0 0 0 (replicate 8 zeros) ∷ unusedOf 0 1 0 0 (replicate 8 zeros) ∷ unusedOf 0 0 1 0 (replicate 8 zeros)
+    (usedFiles (withWindow 1 (unusedOf 0 0 0 0 (replicate 8 zeros)) ∷ unusedOf 1 0 0 0 (replicate 8 zeros) ∷ unusedOf 0 1 0 0
+    (replicate 8 zeros) ∷ unusedOf 0 0 1 0 (replicate 8 zeros)
     ∷ withAgreement (unusedOf 0 0 0 0 (replicate 8 zeros)) 1 ∷ enteredFile (unusedOf 0 0 0 0 (replicate 8 zeros))
     ∷ unusedOf 0 0 0 1 (replicate 8 zeros) ∷ unusedOf 0 0 0 0 (replicate 7 zeros)
     ∷ map (λ (o : Order). unusedOf 0 0 0 0 (replicate 7 zeros ++ (o ∷ []))) almost))

@@ -17,7 +17,8 @@ use Rattle.premise.specs.WellKept.{orderKept, distinct, isBlank, fileKept}
 module _ (f : File) where
   -- the fields besides the orders and their number
   abbrev fieldsKept : Bool
-  fieldsKept = aPremise (f .premise) && aRetailerOrNone (f .retailer) && isDay (f .since) && (leb 1 (f .window) && leb (f .window) mostWidth)
+  fieldsKept = aPremise (f .premise) && aRetailerOrNone (f .retailer) && isDay (f .since) &&
+      (leb 1 (f .window) && leb (f .window) mostWidth)
       && aRetailerOrNone (f .agreement) && leb (f .entered) 1
 
   -- the fields besides the orders

@@ -58,5 +58,6 @@ returns-9 c = sym (formed-past _ (omega arith))
 
 pub well-formed-spec : {M : Type 1} → statement M
 well-formed-spec =
-    tie.close (tie.spec cast-result order-day-holds-requires is-retailer-requires is-retailer-requires-2 named-order-holds-requires returns returns-2
+    tie.close (tie.spec cast-result order-day-holds-requires is-retailer-requires is-retailer-requires-2 named-order-holds-requires returns
+    returns-2
     returns-3 returns-4 returns-5 returns-6 returns-7 returns-8 returns-9)

@@ -31,4 +31,5 @@ pub mod Sends
 pub mod Tests
 pub mod Then
 pub mod WaitGoesOn
+pub mod Windows
 pub mod Writes

@@ -2,7 +2,7 @@
 use Prim.Native.Nat.{ℕ, _≤_, _<_}
 use mathlib.Core.Path.{_≡_, refl}
 use mathlib.Core.List.{List, [], _∷_}
-use mathlib.Core.Option.{none, some}
+use mathlib.Core.Option.{Option, none, some}
 use mathlib.Core.Bool.{Bool, true, false, cond}
 use native.Mathlib.Omega.{arith}
 use lib.Dec.{eqb, ltb}
@@ -62,3 +62,11 @@ found-has Has premise (g ∷ gs) u = go (eqb (g .premise) premise) refl (found-h
         → Held (λ f. (f .premise ≡ premise) × Has f) (cond a (some g) (fileFor premise gs))
     go true t ih = (eqb-true (g .premise) premise t, u .0)
     go false t ih = ih
+
+-- .. and so what every file has
+pub found-each : (Has : File → Type 0) (premise : ℕ) (gs : List File) → Each Has gs → Held Has (fileFor premise gs)
+found-each Has premise gs u = go (fileFor premise gs) (found-has Has premise gs u)
+  where
+    go : (file : Option File) → Held (λ f. (f .premise ≡ premise) × Has f) file → Held Has file
+    go none h = tt
+    go (some f) h = h .1

@@ -22,7 +22,7 @@ use Rattle.premise_laws.proofs.KeptSteps.{step-keeps-shares}
 use Rattle.book.specs.declared.Book.{Book}
 use Rattle.book.specs.Book.{filesOf, freshBook, fileFor, withFile}
 use Rattle.book.specs.Calls.{recordRows, callRows, premiseState, markedFiles, call, callRowsWith}
-use Rattle.book.proofs.Files.{found-has}
+use Rattle.book.proofs.Files.{found-each}
 use Rattle.book.proofs.SameFiles.{with-each}
 use Rattle.book.proofs.Kept.{holds-its-files, book-kept-means}
 use Rattle.book.proofs.Keeps.{keptOnes, found-kept, by-call}
@@ -41,13 +41,6 @@ module _ (calendar : List ℕ) (retailer : ℕ) where
   marked-within day (f ∷ fs) k u =
       (mark-keeps-shares calendar day f retailer (k .0) (u .0), marked-within day fs (k .1) (u .1))
 
-  found-within : (premise : ℕ) (fs : List File) → Within fs → Held (WithinShare retailer) (fileFor premise fs)
-  found-within premise fs u = go (fileFor premise fs) (found-has (WithinShare retailer) premise fs u)
-    where
-      go : (file : Option File) → Held (λ f. (f .premise ≡ premise) × WithinShare retailer f) file → Held (WithinShare retailer) file
-      go none h = tt
-      go (some f) h = h .1
-
   -- only an accepted call changes a file, and then its book is well kept
   call-within : (b : Book) (bytes lent : List ℕ) → Within (filesOf b) → Within (filesOf (call calendar b bytes lent .book))
   call-within b bytes lent u =
@@ -61,7 +54,8 @@ module _ (calendar : List ℕ) (retailer : ℕ) where
       (found-kept b (book-kept-means b .0 (p .kept)) (r .premise)) in
       rw (holds-its-files (b .today) (withFile (r .premise) file (filesOf b)))
       (with-each (WithinShare retailer) (r .premise) file (filesOf b)
-      (step-keeps-shares calendar (premiseState b (r .premise)) r retailer w kept (found-within (r .premise) (filesOf b) u)) u))
+      (step-keeps-shares calendar (premiseState b (r .premise)) r retailer w kept
+      (found-each (WithinShare retailer) (r .premise) (filesOf b) u)) u))
 
   calls-within : (b : Book) (ms : List Made) → Played calendar b ms → Within (filesOf b) → Within (filesOf (lastBook b ms))
   calls-within b [] p u = u

@@ -14,7 +14,7 @@ use Rattle.book.proofs.Kept.{count-is}
 
 -- what is read past an array's end
 abbrev pub past : File
-past = record { premise = 0; retailer = 0; since = 0; agreement = 0; entered = 0; count = 0; orders = [] }
+past = record { premise = 0; retailer = 0; since = 0; window = 0; agreement = 0; entered = 0; count = 0; orders = [] }
 
 -- a book with its count and its places set
 abbrev pub withPlaces : Book → ℕ → List File → Book

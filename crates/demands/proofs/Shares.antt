@@ -3,7 +3,7 @@
 use Prim.Native.Nat.{ℕ, min}
 use mathlib.Core.Path.{_≡_, refl, ap, _∙_}
 use mathlib.Core.List.{List, [], _∷_}
-use mathlib.Core.Option.{Option, none, some}
+use mathlib.Core.Option.{Option, some}
 use Rattle.lists.specs.Search.{anyOf, Each}
 use Rattle.days.specs.Days.{lastDay}
 use Rattle.records.specs.declared.Record.{Record}
@@ -11,12 +11,13 @@ use Rattle.records.specs.declared.Reading.{Reading}
 use Rattle.records.specs.declared.Reading.the-variants.{Says}
 use Rattle.records.specs.Records.{reading}
 use Rattle.premise.specs.declared.File.{File}
+use Rattle.premise.specs.Orders.{keptWidth}
 use Rattle.premise.specs.WellKept.{FileKept}
-use Rattle.premise.specs.Refusals.{number, fromRow, ordersOf, premiseRows, orderRows}
+use Rattle.premise.specs.Refusals.{number, fromRow, ordersOf, premiseRows, fileRows}
 use Rattle.premise.specs.OnePremise.{step}
 use Rattle.premise.proofs.Answers.{holds}
 use Rattle.premise.proofs.Table.{premise-row-numbers, from-skips, none-in-all, room-from-26}
-use Rattle.premise_laws.specs.Laws.{Held, WithinShare}
+use Rattle.premise_laws.specs.Laws.{WithinShare}
 use Rattle.premise_laws.proofs.KeptPasses.{mark-keeps-shares}
 use Rattle.premise_laws.proofs.KeptSteps.{step-keeps-shares}
 use Rattle.book.specs.declared.Book.{Book}
@@ -70,7 +71,7 @@ no-retailer-fills calendar start ms p retailer =
 -- the rows from 26 on are those of the premise's orders
 rows-from-26 : (calendar : List ℕ) (b : Book) (bytes lent : List ℕ) (r : Record) → reading bytes ≡ Says r
     → fromRow 26 (callRows calendar b bytes lent)
-    ≡ fromRow 26 (orderRows calendar (b .today) (ordersOf (fileFor (r .premise) (filesOf b))) r)
+    ≡ fromRow 26 (fileRows calendar (b .today) (fileFor (r .premise) (filesOf b)) r)
 unfolding callRowsWith number
 rows-from-26 calendar b bytes lent r e =
     let file : Option File = fileFor (r .premise) (filesOf b) in
@@ -83,5 +84,5 @@ room-for-others calendar b bytes before reply after p r f h =
     (none-in-all 26 (callRows calendar b bytes before) (h .no-earlier)
     (ap (anyOf holds)
     (rows-from-26 calendar b bytes before r (h .says)
-    ∙ ap (λ (file : Option File). fromRow 26 (orderRows calendar (b .today) (ordersOf file) r)) (h .there))
-    ∙ room-from-26 calendar (b .today) (ordersOf (some f)) r (h .new) (h .own) (h .all)))
+    ∙ ap (λ (file : Option File). fromRow 26 (fileRows calendar (b .today) file r)) (h .there))
+    ∙ room-from-26 (keptWidth f) calendar (b .today) (ordersOf (some f)) r (h .new) (h .own) (h .all)))

@@ -56,6 +56,7 @@ file7 =
       premise = 7;
       retailer = 101;
       since = 0;
+      window = 2;
       agreement = 0;
       entered = 0;
       count = 5;

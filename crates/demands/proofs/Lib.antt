@@ -15,3 +15,4 @@ pub mod Sample
 pub mod Shares
 pub mod SharesSample
 pub mod Tapes
+pub mod WindowOfTwo

@@ -10,3 +10,4 @@ pub mod Sample
 pub mod Shares
 pub mod SharesSample
 pub mod Tapes
+pub mod WindowOfTwo

@@ -8,14 +8,13 @@ use lib.Dec.{eqb, leb}
 use borrow.Author.Tests.{eqb-true, eqb-false, leb-true, leb-false, not-true}
 use Rattle.lists.proofs.TestLaws.{and-left, and-right, pass-each}
 use Rattle.days.specs.Days.{lastDay, isDay}
-use Rattle.days.specs.Window.{mostWidth}
 use Rattle.records.specs.declared.Record.{Record}
 use Rattle.records.specs.Records.{kindAgreement, standardSwitch, massTransitionDrop, replyReject, lastRetailer, unused, aReference}
 use Rattle.records.specs.Records.{aPremise, aRetailer, aRetailerOrNone, aCounter, anOrderKind, aReply, anAgreement, orderDay}
 use Rattle.records.specs.Records.{delete, aWindow, wellFormed}
 use Rattle.records.specs.Kinds.{holds, datedHolds, undatedHolds, holdsByKind}
-use Rattle.records.specs.Laws.{Unused, ADay, AWindow, Given, ARetailerOrNone, FieldsOfKind, fieldsByKind, Fields, UpTo, OrderDay}
-use Rattle.records.specs.Laws.{Formed}
+use Rattle.records.specs.Laws.{Unused, ADay, AWindow, Given, ARetailerOrNone, FieldsOfKind, fieldsByKind, Fields, UpTo, OrderDay, Formed}
+use Rattle.records.proofs.Ranges.{window-range}
 use Rattle.records.proofs.ByNumber.{_also_, every-at, Means, means-at}
 use Rattle.records.proofs.ByKind.{formed-at, formed-past}
 
@@ -38,7 +37,7 @@ is-at-most : (n : ℕ) → aRetailerOrNone n ≡ true → ARetailerOrNone n
 is-at-most n h = leb-true n lastRetailer h
 
 is-window : (n : ℕ) → aWindow n ≡ true → AWindow n
-is-window n h = leb-true n mostWidth h
+is-window n h = window-range n .0 h
 
 is-order-day : (kind n : ℕ) → orderDay kind n ≡ true → OrderDay kind n
 is-order-day kind n h = go (eqb kind standardSwitch) refl h

@@ -1,12 +1,12 @@
--- References, premises and counters: "not 0" of what goes into the field is document 01's range. Assumes nothing.
+-- References, premises and counters: "not 0" of what goes into the field is document 01's range; and a window's. Assumes nothing.
 use Prim.Native.Nat.{ℕ, _≤_}
 use mathlib.Core.Path.{_≡_, ap}
 use mathlib.Core.Logic.{_↔_}
 use mathlib.Core.Bool.{true, not}
 use native.Mathlib.Omega.{arith}
 use lib.Dec.{eqb}
-use borrow.Author.Tests.{eqb-false, not-true, ne-eqb}
-use Rattle.records.specs.Laws.{UpTo, ReferenceRange, PremiseRange, CounterRange}
+use borrow.Author.Tests.{eqb-false, not-true, ne-eqb, leb-true, le-leb}
+use Rattle.records.specs.Laws.{UpTo, ReferenceRange, PremiseRange, CounterRange, WindowRange}
 
 given-up-to : (last n : ℕ) → n ≤ last → (not (eqb n 0) ≡ true) ↔ UpTo last n
 given-up-to last n within = (
@@ -24,3 +24,6 @@ premise-range n goes = given-up-to 18446744073709551615 n (omega (arith, goes))
 
 pub counter-range : CounterRange
 counter-range n goes = given-up-to 4294967295 n (omega (arith, goes))
+
+pub window-range : WindowRange
+window-range n = (leb-true n 5, le-leb n 5)

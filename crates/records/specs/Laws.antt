@@ -14,7 +14,7 @@ use Rattle.records.specs.declared.Reading.the-variants.{Malformed, Says}
 use Rattle.records.specs.Layout.{Field, GoesInto, recordLength, kindField, detailField, dayField, referenceField, premiseField}
 use Rattle.records.specs.Layout.{retailerField, zeroField, fieldOf}
 use Rattle.records.specs.Records.{kindNewOrder, kindDayMark, kindDateChange, kindAgreement, standardSwitch, massTransitionDrop}
-use Rattle.records.specs.Records.{replyReject, delete, lastRetailer, aReference, aPremise, aCounter, wellFormed, fieldsOf}
+use Rattle.records.specs.Records.{replyReject, delete, lastRetailer, aReference, aPremise, aCounter, aWindow, wellFormed, fieldsOf}
 
 -- What a field holds, as facts; specs/Records.antt has the tests.
 abbrev pub Unused : ℕ → Type 0
@@ -54,6 +54,10 @@ PremiseRange = SaysRange aPremise premiseField 18446744073709551615
 
 abbrev pub CounterRange : Type 0
 CounterRange = SaysRange aCounter retailerField 4294967295
+
+-- Document 02, change 2: "1 to 5 business days, and 0 means 2; above 5 gets 3."
+abbrev pub WindowRange : Type 0
+WindowRange = (n : ℕ) → (aWindow n ≡ true) ↔ (n ≤ 5)
 
 -- a new order's day: a day, and 0 for a standard switch
 pub record OrderDay (kind day : ℕ) : Type 0 where

@@ -1,14 +1,15 @@
 -- Document 02, change 2: a window for each premise. T is 10 and every day a business day.
 use Prim.Native.Nat.{ℕ}
 use mathlib.Core.List.{List, [], _∷_, map}
+use mathlib.Core.Option.{some}
 use Rattle.records.specs.declared.Record.{Record}
 use Rattle.records.specs.declared.Notice.{Notice}
 use Rattle.records.specs.Notices.{tdsp}
 use Rattle.records.specs.Records.{moveIn, moveOut, selfSelectedSwitch, massTransitionDrop}
-use Rattle.premise.specs.Orders.{scheduled}
+use Rattle.premise.specs.Orders.{scheduled, complete, withAgreement}
 use Rattle.premise.specs.Passes.{codeScheduled, codeLosing, codeCancel, codeAgreementMoveIn}
-use Rattle.premise.specs.Pieces.Forms.{Case, Piece, piece, asked, tells, leaves, createWide, order, schedule, redate, establishes}
-use Rattle.premise.specs.Pieces.Forms.{marks, business, stands, stateWide, nothing, sent}
+use Rattle.premise.specs.Pieces.Forms.{Case, Piece, piece, asked, tells, leaves, createWide, order, schedule, read, redate, mark}
+use Rattle.premise.specs.Pieces.Forms.{marks, business, establishes, stands, file, withWindow, enteredFile, stateWide, nothing, sent}
 
 -- the file that a create with a detail makes
 abbrev creates : ℕ → ℕ → Case
@@ -48,6 +49,12 @@ windows =
     piece "a create's detail 0 means 2" (creates 0 2)
     ∷ piece "a create's detail 1" (creates 1 1)
     ∷ piece "a create's detail 5" (creates 5 5)
+    ∷ piece "a window of 4 stays, whatever the record" (leaves (business 20) (stateWide 4 10 101 0 [])
+    (establishes 900 ∷ order moveIn 10 1 202 ∷ schedule 1 10 ∷ read 1 10 ∷ mark 11 ∷ [])
+    (record {
+      today = 11;
+      file = some (withWindow 4 (enteredFile (withAgreement (file 202 10 (stands 1 moveIn 202 10 10 complete 1 0 1 ∷ [])) 900)));
+    }))
     ∷ piece "window 5: told at once" (tellsOf 5 [] (said ∷ loses ∷ []))
     ∷ piece "window 4: told with mark 11" (tellsOf 4 (marks 1 11) (loses ∷ []))
     ∷ piece "window 4: not before" (tellsOf 4 [] (said ∷ []))

@@ -2,7 +2,7 @@
 
 use crate::evaluation;
 use crate::well_kept::is_well_kept;
-use crate::window::Window;
+use crate::window::{Window, Windows};
 use stacking::agreement;
 use stacking::answer::Answer;
 use stacking::book::Book;
@@ -67,10 +67,8 @@ fn premise_record(
     notices: &mut NoticeWriter,
 ) -> Result<(), Answer> {
     match (entry, book.place_of(premise)) {
-        (Entry::Create { .. }, Ok(_)) => Err(Answer::PremiseHeld),
-        (Entry::Create { since, retailer }, Err(place)) => {
-            book.insert(place, File::new(premise, retailer, since))
-        }
+        (Entry::Create(_), Ok(_)) => Err(Answer::PremiseHeld),
+        (Entry::Create(new), Err(place)) => book.insert(place, File::created(premise, new)),
         (_, Err(_)) => Err(Answer::NoSuchPremise),
         (Entry::Retire, Ok(place)) => {
             premise::may_retire(&book.files[place])?;
@@ -80,7 +78,8 @@ fn premise_record(
         (Entry::Order(entry), Ok(place)) => {
             let file = &mut book.files[place];
             premise::order_step(file, calendar, book.today, entry, notices)?;
-            evaluation::run(file, &Window::new(calendar, book.today), notices);
+            let window = Window::new(calendar, book.today, file.window);
+            evaluation::run(file, &window, notices);
             Ok(())
         }
         (Entry::Agreement(agreement), Ok(place)) => {
@@ -89,7 +88,7 @@ fn premise_record(
     }
 }
 
-/// Record kind 10. The window is looked for once, for all files.
+/// Record kind 10. The windows are looked for once, for all files.
 fn day_mark(
     book: &mut Book,
     calendar: &[u8],
@@ -98,10 +97,10 @@ fn day_mark(
 ) -> Result<(), Answer> {
     premise::is_next_day(book.today, day)?;
     book.today = day;
-    let window = Window::new(calendar, day);
+    let windows = Windows::new(calendar, day);
     for file in &mut book.files[..usize::from(book.file_count)] {
         clock::run(file, calendar, day, notices);
-        evaluation::run(file, &window, notices);
+        evaluation::run(file, &windows.of(file.window), notices);
     }
     Ok(())
 }

@@ -7,7 +7,7 @@ use stacking::file::File;
 use stacking::notice::NOTICE_BUFFER_BYTES;
 use stacking::order::{kind, status, Order};
 use stacking::random::Random;
-use stacking::record::{Entry, Event, NewOrder, Record, RECORD_BYTES};
+use stacking::record::{Entry, Event, NewFile, NewOrder, Record, RECORD_BYTES};
 use stacking::tape::TAPE_BYTES;
 
 /// A tape and the calendar it is for.
@@ -70,10 +70,11 @@ fn full_file(file: u16) -> Vec<Entry> {
     };
     let scheduled = |reference, day| Entry::event(reference, Event::Scheduled { day });
     let mut entries = vec![
-        Entry::Create {
+        Entry::Create(NewFile {
             since: 0,
             retailer: 101,
-        },
+            window: 0,
+        }),
         order(1, kind::SELF_SELECTED_SWITCH, 60),
         order(2, kind::SELF_SELECTED_SWITCH, 60),
         order(3, kind::MOVE_IN, 80),
@@ -138,10 +139,11 @@ impl Market {
         let premise = (self.random.below(MIXED_PREMISES as usize) as u64 + 1) * 1_000_003;
         let file = book.held().iter().find(|file| file.premise == premise);
         let entry = match file {
-            None => Entry::Create {
+            None => Entry::Create(NewFile {
                 since: book.today,
                 retailer: 101,
-            },
+                window: 0,
+            }),
             Some(file) => self.entry(book.today, file),
         };
         of_premise(premise, entry)

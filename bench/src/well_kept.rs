@@ -2,7 +2,7 @@
 
 use stacking::book::{Book, FILES_A_BOOK};
 use stacking::clock::{CANCEL_PENDING_WAIT, LONGEST_WAIT};
-use stacking::days::{is_day, CalendarDays, NO_DAY};
+use stacking::days::{is_day, CalendarDays, NARROWEST_WINDOW, NO_DAY, WIDEST_WINDOW};
 use stacking::file::{File, ORDERS_A_FILE};
 use stacking::order::{kind, Order, LARGEST_RETAILER};
 
@@ -29,6 +29,8 @@ fn file_is_well_kept(file: &File) -> bool {
     (file.premise != 0)
         & (file.retailer <= LARGEST_RETAILER)
         & is_day(file.since)
+        & (file.window >= NARROWEST_WINDOW)
+        & (file.window <= WIDEST_WINDOW)
         & (file.agreement <= LARGEST_RETAILER)
         & (file.moved_in <= 1)
         & all(held, order_is_well_kept)
@@ -40,7 +42,7 @@ fn file_is_well_kept(file: &File) -> bool {
 fn file_is_empty(file: &File) -> bool {
     let retailers = file.retailer | file.agreement;
     let own = file.premise | u64::from(retailers) | u64::from(file.since);
-    let bytes = file.order_count | file.moved_in;
+    let bytes = file.order_count | file.window.0 | file.moved_in;
     (own | u64::from(bytes) == 0) & all(&file.orders, order_is_empty)
 }
 

@@ -1,6 +1,6 @@
 //! The days in window, looked for once for all orders.
 
-use stacking::days::{is_business_day, LAST_DAY, WINDOW};
+use stacking::days::{is_business_day, BusinessDays, LAST_DAY, WIDEST_WINDOW};
 
 /// Today, and the last day that is in window from it.
 #[derive(Clone, Copy, Debug)]
@@ -13,10 +13,9 @@ pub struct Window {
 impl Window {
     /// With a width of two business days the third one from `today` on is the
     /// last day in window: it has two before it, and every later day has more.
-    pub fn new(calendar: &[u8], today: u16) -> Window {
-        let last = (today..=LAST_DAY)
-            .filter(|&day| is_business_day(calendar, day))
-            .nth(usize::from(WINDOW.0))
+    pub fn new(calendar: &[u8], today: u16, width: BusinessDays) -> Window {
+        let last = business_days(calendar, today)
+            .nth(usize::from(width.0))
             .unwrap_or(LAST_DAY);
         Window { today, last }
     }
@@ -25,4 +24,34 @@ impl Window {
     pub fn holds(&self, day: u16) -> bool {
         day <= self.last
     }
+}
+
+/// The windows of every width, found in one walk over the days.
+#[derive(Clone, Copy, Debug)]
+pub struct Windows {
+    today: u16,
+    /// By width, from 0 on.
+    lasts: [u16; 1 + WIDEST_WINDOW.0 as usize],
+}
+
+impl Windows {
+    pub fn new(calendar: &[u8], today: u16) -> Windows {
+        let mut lasts = [LAST_DAY; 1 + WIDEST_WINDOW.0 as usize];
+        for (last, day) in lasts.iter_mut().zip(business_days(calendar, today)) {
+            *last = day;
+        }
+        Windows { today, lasts }
+    }
+
+    /// The window of a width that a well-kept file has.
+    pub fn of(&self, width: BusinessDays) -> Window {
+        Window {
+            today: self.today,
+            last: self.lasts[usize::from(width.0)],
+        }
+    }
+}
+
+fn business_days(calendar: &[u8], today: u16) -> impl Iterator<Item = u16> + '_ {
+    (today..=LAST_DAY).filter(move |&day| is_business_day(calendar, day))
 }

@@ -112,10 +112,8 @@ fn premise_record(
     notices: &mut NoticeWriter,
 ) -> Result<(), Answer> {
     match (entry, book.place_of(premise)) {
-        (Entry::Create { .. }, Ok(_)) => Err(Answer::PremiseHeld),
-        (Entry::Create { since, retailer }, Err(place)) => {
-            book.insert(place, File::new(premise, retailer, since))
-        }
+        (Entry::Create(_), Ok(_)) => Err(Answer::PremiseHeld),
+        (Entry::Create(new), Err(place)) => book.insert(place, File::created(premise, new)),
         (_, Err(_)) => Err(Answer::NoSuchPremise),
         (Entry::Retire, Ok(place)) => {
             premise::may_retire(&book.files[place])?;

@@ -15,10 +15,17 @@ pub fn takes(order: &Order) -> bool {
 
 /// Row 16: an iteration that came before, or has come already. Row 17: an order
 /// that is about to be carried out.
-pub fn may_change(order: &Order, calendar: &[u8], today: u16, counter: u32) -> Result<(), Answer> {
+pub fn may_change(
+    file: &File,
+    place: usize,
+    calendar: &[u8],
+    today: u16,
+    counter: u32,
+) -> Result<(), Answer> {
+    let order = &file.orders[place];
     refuse_if(counter <= order.counter, Answer::CounterNotAbove)?;
     refuse_if(
-        order.is_scheduled() && in_window(calendar, today, order.scheduled_day),
+        order.is_scheduled() && in_window(calendar, today, file.window, order.scheduled_day),
         Answer::DateChangeInWindow,
     )
 }

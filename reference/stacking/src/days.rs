@@ -29,9 +29,14 @@ pub struct BusinessDays(pub u8);
 #[derive(Clone, Copy, Debug, Default, PartialEq, Eq, PartialOrd, Ord)]
 pub struct CalendarDays(pub u8);
 
-/// An order is in window if at most this many business days lie from today up
-/// to its scheduled day, that day not counted.
-pub const WINDOW: BusinessDays = BusinessDays(2);
+/// How wide a premise's window is where its create does not say (02, change 2).
+pub const USUAL_WINDOW: BusinessDays = BusinessDays(2);
+
+/// A window is at least this wide.
+pub const NARROWEST_WINDOW: BusinessDays = BusinessDays(1);
+
+/// A window is at most this wide.
+pub const WIDEST_WINDOW: BusinessDays = BusinessDays(5);
 
 /// Is this a day, and not "no day" or a number beyond?
 pub fn is_day(day: u16) -> bool {
@@ -56,8 +61,9 @@ pub fn switch_date(calendar: &[u8], today: u16) -> Option<u16> {
     (today..=LAST_DAY).find(|&day| kind_of(calendar, day) != HOLIDAY)
 }
 
-/// In window: a day, and not too many business days from `today` up to it.
-pub fn in_window(calendar: &[u8], today: u16, day: u16) -> bool {
+/// In window: a day, and at most as many business days from `today` up to it, that
+/// day not counted, as the window is wide.
+pub fn in_window(calendar: &[u8], today: u16, window: BusinessDays, day: u16) -> bool {
     let business_days = (today..day).filter(|&between| is_business_day(calendar, between));
-    is_day(day) && business_days.count() <= usize::from(WINDOW.0)
+    is_day(day) && business_days.count() <= usize::from(window.0)
 }

@@ -1,7 +1,7 @@
 //! The evaluation: four passes over a file's orders, oldest first, each seeing
 //! what the one before left.
 
-use crate::days::in_window;
+use crate::days::{in_window, BusinessDays};
 use crate::file::{File, DE_ENERGIZED, NO_AGREEMENT};
 use crate::notice::{Code, NoticeWriter, TDSP};
 use crate::order::{kind, status, Order};
@@ -23,7 +23,7 @@ pub fn keep_one_switch_a_day(
 ) {
     for place in 0..file.held().len() {
         let order = file.orders[place];
-        if is_contested(&order, calendar, today)
+        if is_contested(&order, calendar, today, file.window)
             && kept_switch(file, calendar, today, order.scheduled_day) != Some(place)
         {
             cancel(file, place, notices);
@@ -33,17 +33,17 @@ pub fn keep_one_switch_a_day(
 }
 
 /// A switch in window that is Scheduled or Cancel Pending.
-fn is_contested(order: &Order, calendar: &[u8], today: u16) -> bool {
+fn is_contested(order: &Order, calendar: &[u8], today: u16, window: BusinessDays) -> bool {
     order.is_switch()
         && matches!(order.status, status::SCHEDULED | status::CANCEL_PENDING)
-        && in_window(calendar, today, order.scheduled_day)
+        && in_window(calendar, today, window, order.scheduled_day)
 }
 
 /// The switch kept for a day: the oldest Scheduled one, or the oldest if none is.
 fn kept_switch(file: &File, calendar: &[u8], today: u16, day: u16) -> Option<usize> {
     let on_the_day = |&place: &usize| {
         let order = &file.orders[place];
-        is_contested(order, calendar, today) && order.scheduled_day == day
+        is_contested(order, calendar, today, file.window) && order.scheduled_day == day
     };
     let is_scheduled = |&place: &usize| file.orders[place].is_scheduled();
     let contested = || (0..file.held().len()).filter(on_the_day);
@@ -61,7 +61,7 @@ pub fn cancel_drops_beside_switches(
         let order = file.orders[place];
         if order.kind == kind::MASS_TRANSITION_DROP
             && order.is_scheduled()
-            && in_window(calendar, today, order.scheduled_day)
+            && in_window(calendar, today, file.window, order.scheduled_day)
             && has_switch_on(file, order.scheduled_day)
         {
             cancel(file, place, notices);
@@ -109,7 +109,7 @@ pub fn tell_retailers(file: &mut File, calendar: &[u8], today: u16, notices: &mu
     for place in 0..file.held().len() {
         let order = &mut file.orders[place];
         let is_due = order.is_scheduled()
-            && in_window(calendar, today, order.scheduled_day)
+            && in_window(calendar, today, file.window, order.scheduled_day)
             && order.told == 0;
         if is_due && order.kind != kind::MOVE_OUT {
             order.told = 1;

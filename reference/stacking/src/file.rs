@@ -1,6 +1,8 @@
 //! The file of one premise.
 
+use crate::days::{BusinessDays, USUAL_WINDOW};
 use crate::order::{kind, Order};
+use crate::record::NewFile;
 
 /// A file holds up to this many orders.
 pub const ORDERS_A_FILE: usize = 8;
@@ -25,6 +27,8 @@ pub struct File {
     pub since: u16,
     /// How many of the places of `orders` are used.
     pub order_count: u8,
+    /// How many business days wide the premise's window is.
+    pub window: BusinessDays,
     /// C, the retailer of the owner's service agreement; 0 for none.
     pub agreement: u32,
     /// 1 if a move in read on the day of `since` set the retailer.
@@ -40,18 +44,32 @@ impl File {
         retailer: 0,
         since: 0,
         order_count: 0,
+        window: BusinessDays(0),
         agreement: NO_AGREEMENT,
         moved_in: 0,
         orders: [Order::EMPTY; ORDERS_A_FILE],
     };
 
-    /// The file that a create makes.
+    /// A file without orders and agreement, with the usual window.
     pub fn new(premise: u64, retailer: u32, since: u16) -> File {
         File {
             premise,
             retailer,
             since,
+            window: USUAL_WINDOW,
             ..File::EMPTY
+        }
+    }
+
+    /// The file that a create makes.
+    pub fn created(premise: u64, new: NewFile) -> File {
+        let window = match new.window {
+            0 => USUAL_WINDOW,
+            width => BusinessDays(width),
+        };
+        File {
+            window,
+            ..File::new(premise, new.retailer, new.since)
         }
     }
 

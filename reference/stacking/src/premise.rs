@@ -140,7 +140,7 @@ fn order_event(
         Event::CancelAccepted => cancel_accepted(file, place, notices),
         Event::CancelRejected => cancel_rejected(file, place, notices),
         Event::DateChange { day, counter } => {
-            date_change::may_change(&file.orders[place], calendar, today, counter)?;
+            date_change::may_change(file, place, calendar, today, counter)?;
             date_change::change(file, place, calendar, today, (day, counter), notices);
         }
     }

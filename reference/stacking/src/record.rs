@@ -1,6 +1,6 @@
 //! The 24-byte layout of records and notices, and row 3: which bytes are a record.
 
-use crate::days::LAST_DAY;
+use crate::days::{LAST_DAY, WIDEST_WINDOW};
 use crate::order::{kind, LARGEST_RETAILER};
 use std::ops::Range;
 
@@ -79,7 +79,7 @@ pub enum Record {
 #[derive(Clone, Copy, Debug, PartialEq, Eq)]
 pub enum Entry {
     /// Kind 1.
-    Create { since: u16, retailer: u32 },
+    Create(NewFile),
     /// Kind 2.
     Retire,
     /// Kinds 3 to 9 and 11.
@@ -95,6 +95,17 @@ pub enum Agreement {
     Establish { retailer: u32 },
     /// Detail 2.
     Delete { retailer: u32 },
+}
+
+/// A new file as the record gives it.
+#[derive(Clone, Copy, Debug, PartialEq, Eq)]
+pub struct NewFile {
+    /// S.
+    pub since: u16,
+    /// R, or 0.
+    pub retailer: u32,
+    /// The window in business days; 0 means the usual one (02, change 2).
+    pub window: u8,
 }
 
 /// What a record says about a premise's orders.
@@ -181,6 +192,7 @@ const ORDER: Ranges = Ranges {
 const RANGES: [Ranges; 12] = [
     // create
     Ranges {
+        detail: (0, WIDEST_WINDOW.0),
         day: ANY_DAY,
         retailer: (0, LARGEST_RETAILER),
         ..PREMISE
@@ -269,10 +281,11 @@ pub fn decode(bytes: &[u8]) -> Option<Record> {
     }
     let on_order = |event| Entry::event(fields.reference, event);
     let entry = match fields.kind {
-        1 => Entry::Create {
+        1 => Entry::Create(NewFile {
             since: fields.day,
             retailer: fields.retailer,
-        },
+            window: fields.detail,
+        }),
         2 => Entry::Retire,
         3 => new_order(&fields)?,
         4 => on_order(Event::Scheduled { day: fields.day }),
@@ -350,10 +363,11 @@ impl Entry {
     /// The entry's fields, the premise left open.
     fn fields(&self) -> Fields {
         match *self {
-            Entry::Create { since, retailer } => Fields {
+            Entry::Create(new) => Fields {
                 kind: 1,
-                day: since,
-                retailer,
+                detail: new.window,
+                day: new.since,
+                retailer: new.retailer,
                 ..Fields::default()
             },
             Entry::Retire => Fields {

@@ -70,9 +70,9 @@ impl OnePremise {
         notices: &mut NoticeWriter,
     ) -> Result<(), Answer> {
         match (entry, &mut self.file) {
-            (Entry::Create { .. }, Some(_)) => Err(Answer::PremiseHeld),
-            (Entry::Create { since, retailer }, file @ None) => {
-                *file = Some(File::new(premise, retailer, since));
+            (Entry::Create(_), Some(_)) => Err(Answer::PremiseHeld),
+            (Entry::Create(new), file @ None) => {
+                *file = Some(File::created(premise, new));
                 Ok(())
             }
             (_, None) => Err(Answer::NoSuchPremise),

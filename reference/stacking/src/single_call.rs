@@ -52,8 +52,14 @@ fn write_book(book: &Book, out: &mut dyn Write) -> io::Result<()> {
 fn write_file(file_place: usize, file: &File, out: &mut dyn Write) -> io::Result<()> {
     writeln!(
         out,
-        "f {file_place} {} {} {} {} {} {}",
-        file.premise, file.retailer, file.since, file.order_count, file.agreement, file.moved_in
+        "f {file_place} {} {} {} {} {} {} {}",
+        file.premise,
+        file.retailer,
+        file.since,
+        file.order_count,
+        file.window.0,
+        file.agreement,
+        file.moved_in
     )?;
     for (place, order) in file.orders.iter().enumerate() {
         if place < usize::from(file.order_count) || *order != Order::EMPTY {
@@ -96,6 +102,7 @@ fn push_book(bytes: &mut Vec<u8>, book: &Book) {
         bytes.extend(file.retailer.to_le_bytes());
         bytes.extend(file.since.to_le_bytes());
         bytes.push(file.order_count);
+        bytes.push(file.window.0);
         bytes.extend(file.agreement.to_le_bytes());
         bytes.push(file.moved_in);
         for order in &file.orders {
@@ -203,6 +210,7 @@ impl<'a> Left<'a> {
             retailer: self.four()?,
             since: self.two()?,
             order_count: self.byte()?,
+            window: BusinessDays(self.byte()?),
             agreement: self.four()?,
             moved_in: self.byte()?,
             ..File::EMPTY

@@ -11,13 +11,14 @@ mod evaluation;
 mod records;
 mod rows;
 mod well_kept;
+mod windows;
 
 use crate::book::Book;
 use crate::days::{BusinessDays, CalendarDays, NO_DAY};
 use crate::file::File;
 use crate::notice::NOTICE_BUFFER_BYTES;
 use crate::order::{kind, status, Order};
-use crate::record::{Agreement, Entry, Event, NewOrder, Record};
+use crate::record::{Agreement, Entry, Event, NewFile, NewOrder, Record};
 use crate::single_call::Call;
 
 /// A call and what it is called.
@@ -34,6 +35,7 @@ pub fn all() -> Vec<Stored> {
         date_changes::calls(),
         agreements::calls(),
         both_reads::calls(),
+        windows::calls(),
         clock::calls(),
         evaluation::calls(),
         rows::calls(),
@@ -236,7 +238,15 @@ fn mark(day: u16) -> [u8; 24] {
 }
 
 fn create(since: u16, retailer: u32) -> [u8; 24] {
-    own(Entry::Create { since, retailer })
+    create_with(since, retailer, 0)
+}
+
+fn create_with(since: u16, retailer: u32, window: u8) -> [u8; 24] {
+    own(Entry::Create(NewFile {
+        since,
+        retailer,
+        window,
+    }))
 }
 
 fn retire() -> [u8; 24] {

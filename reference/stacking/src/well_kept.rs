@@ -2,7 +2,7 @@
 
 use crate::book::{Book, FILES_A_BOOK};
 use crate::clock::{CANCEL_PENDING_WAIT, LONGEST_WAIT};
-use crate::days::{is_day, CalendarDays, NO_DAY};
+use crate::days::{is_day, CalendarDays, NARROWEST_WINDOW, NO_DAY, WIDEST_WINDOW};
 use crate::file::{File, ORDERS_A_FILE};
 use crate::order::{kind, status, Order, LARGEST_RETAILER};
 
@@ -33,6 +33,7 @@ fn file_is_well_kept(file: &File) -> bool {
     file.premise != 0
         && file.retailer <= LARGEST_RETAILER
         && is_day(file.since)
+        && (NARROWEST_WINDOW..=WIDEST_WINDOW).contains(&file.window)
         && file.agreement <= LARGEST_RETAILER
         && file.moved_in <= 1
         && held.iter().all(order_is_well_kept)

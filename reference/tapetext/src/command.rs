@@ -61,7 +61,8 @@ day on which switches start, 2 a Sunday or ERCOT holiday. Its lines:
 
 The records, their named fields in any order:
 
-  create                 premise N day N retailer N  retailer 0: de-energized
+  create                 premise N day N retailer N [window N]
+                         retailer 0: de-energized; window 0: two business days
   retire                 premise N
   move-in                premise N reference N day N retailer N
   move-out               premise N reference N day N retailer N

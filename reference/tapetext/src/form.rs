@@ -12,6 +12,12 @@ pub(crate) struct Field {
     pub width: usize,
 }
 
+/// A create's detail, which other records have for what they are.
+pub(crate) const WINDOW: Field = Field {
+    name: "window",
+    offset: 1,
+    width: 1,
+};
 pub(crate) const DAY: Field = Field {
     name: "day",
     offset: 2,
@@ -80,8 +86,16 @@ pub(crate) struct Form {
     pub name: &'static str,
     pub words: &'static [&'static str],
     pub kind: u8,
-    pub detail: u8,
+    /// None where the detail is one of the fields.
+    pub detail: Option<u8>,
     pub fields: Fields,
+}
+
+impl Form {
+    /// Whether the form is for records with this kind and detail.
+    pub fn is_for(&self, kind: u8, detail: u8) -> bool {
+        self.kind == kind && self.detail.unwrap_or(detail) == detail
+    }
 }
 
 const fn form(
@@ -95,7 +109,7 @@ const fn form(
         name,
         words,
         kind,
-        detail,
+        detail: Some(detail),
         fields: Fields::Named {
             required,
             optional: &[],
@@ -110,7 +124,16 @@ const NAMED: &[Field] = &[PREMISE, REFERENCE];
 /// All forms, in the order of the record kinds. No two share kind and
 /// detail, and no form's words begin another's.
 pub(crate) const FORMS: &[Form] = &[
-    form("create", &["create"], 1, 0, &[PREMISE, DAY, RETAILER]),
+    Form {
+        name: "create",
+        words: &["create"],
+        kind: 1,
+        detail: None,
+        fields: Fields::Named {
+            required: &[PREMISE, DAY, RETAILER],
+            optional: &[WINDOW],
+        },
+    },
     form("retire", &["retire"], 2, 0, &[PREMISE]),
     form("move in", &["move-in"], 3, 1, ORDER),
     form("move out", &["move-out"], 3, 2, ORDER),
@@ -120,7 +143,7 @@ pub(crate) const FORMS: &[Form] = &[
         name: "standard switch",
         words: &["standard-switch"],
         kind: 3,
-        detail: 3,
+        detail: Some(3),
         fields: Fields::Named {
             required: &[PREMISE, REFERENCE, RETAILER],
             optional: &[DAY],
@@ -145,7 +168,7 @@ pub(crate) const FORMS: &[Form] = &[
         name: "day mark",
         words: &["day"],
         kind: 10,
-        detail: 0,
+        detail: Some(0),
         fields: Fields::Bare(DAY),
     },
     form(
@@ -177,9 +200,10 @@ mod tests {
 
     #[test]
     fn no_two_forms_share_kind_and_detail() {
-        for (place, one) in FORMS.iter().enumerate() {
-            for other in &FORMS[..place] {
-                assert_ne!((one.kind, one.detail), (other.kind, other.detail));
+        for kind in 0..=u8::MAX {
+            for detail in 0..=u8::MAX {
+                let forms = FORMS.iter().filter(|form| form.is_for(kind, detail));
+                assert!(forms.count() <= 1, "{kind} {detail}");
             }
         }
     }
@@ -195,7 +219,7 @@ mod tests {
 
     #[test]
     fn a_field_holds_every_number_up_to_its_most() {
-        for field in [DAY, REFERENCE, PREMISE, RETAILER, COUNTER] {
+        for field in [WINDOW, DAY, REFERENCE, PREMISE, RETAILER, COUNTER] {
             for number in [0, 1, field.most() / 3, field.most()] {
                 let mut record = [0; RECORD_BYTES];
                 field.put(&mut record, number);

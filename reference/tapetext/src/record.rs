@@ -20,7 +20,7 @@ pub(crate) fn parse(words: &[&str]) -> Result<Vec<u8>, Fault> {
     let rest = &words[form.words.len()..];
     let mut record = vec![0; RECORD_BYTES];
     record[0] = form.kind;
-    record[1] = form.detail;
+    record[1] = form.detail.unwrap_or(0);
     match form.fields {
         Fields::Bare(field) => put_bare(form, field, rest, &mut record)?,
         Fields::Named { required, optional } => {
@@ -48,7 +48,9 @@ pub(crate) fn describe(record: &[u8], asked: &[Field]) -> String {
     let (naming, fields): (&[Field], Vec<Field>) = match form.fields {
         Fields::Bare(field) => (&[field], vec![field]),
         Fields::Named { required, optional } => {
-            (&[PREMISE, REFERENCE], [required, optional].concat())
+            let given = optional.iter().filter(|field| field.get(record) != 0);
+            let fields = required.iter().chain(given).copied();
+            (&[PREMISE, REFERENCE], fields.collect())
         }
     };
     let mut said = form.name.to_string();
@@ -64,7 +66,7 @@ pub(crate) fn describe(record: &[u8], asked: &[Field]) -> String {
 fn form_of(record: &[u8]) -> Option<&'static Form> {
     FORMS
         .iter()
-        .find(|form| record.len() == RECORD_BYTES && record.starts_with(&[form.kind, form.detail]))
+        .find(|form| record.len() == RECORD_BYTES && form.is_for(record[0], record[1]))
 }
 
 /// What the fields of a record say in words, whatever stands in its other bytes.

@@ -1,6 +1,6 @@
 //! The rows of document 01's table and document 02's in words. A new row is one more here.
 
-use crate::form::{Field, COUNTER, DAY, PREMISE, REFERENCE, RETAILER};
+use crate::form::{Field, COUNTER, DAY, PREMISE, REFERENCE, RETAILER, WINDOW};
 
 /// A row of the table: its number, what it holds against a record, and which of
 /// the record's fields that is about, beside those that say which order it is.
@@ -19,7 +19,7 @@ const fn row(number: u64, words: &'static str, about: &'static [Field]) -> Row {
 }
 
 /// Row 3 can be about any field.
-const ANY: &[Field] = &[DAY, REFERENCE, PREMISE, RETAILER, COUNTER];
+const ANY: &[Field] = &[WINDOW, DAY, REFERENCE, PREMISE, RETAILER, COUNTER];
 
 #[rustfmt::skip]
 pub(crate) const ROWS: &[Row] = &[

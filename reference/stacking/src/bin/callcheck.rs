@@ -7,14 +7,15 @@
 //! written whether it is used or not:
 //!
 //! ```text
-//! book     12,035 bytes
+//! book     12,099 bytes
 //!   T                    2
 //!   number of files      1
-//!   64 files, each     188 bytes
+//!   64 files, each     189 bytes
 //!     P                  8
 //!     R                  4
 //!     S                  2
 //!     number of orders   1
+//!     window             1
 //!     C                  4
 //!     moved in           1
 //!     8 orders, each    21 bytes
@@ -43,7 +44,7 @@
 //! x place byte                             each byte after the notices that is
 //!                                          no longer 165
 //! b T files
-//! f place P R S orders C moved-in          each file place
+//! f place P R S orders window C moved-in   each file place
 //! o place place F K Q RD SD status N W told counter
 //!                                          each order place of a file place
 //! ```

@@ -30,6 +30,7 @@ pub fn well_kept_book(random: &mut Random) -> Book {
 fn well_kept_file(random: &mut Random, today: u16, premise: u64) -> File {
     let retailer = random.pick(&[0, 101, 202, LARGEST_RETAILER]);
     let mut file = File::new(premise, retailer, some_day(random, today));
+    file.window = BusinessDays(random.pick(&[1, 2, 2, 3, 4, 5]));
     file.agreement = random.pick(&[0, 0, 101, 404, LARGEST_RETAILER]);
     file.moved_in = random.below(2) as u8;
     file.order_count = random.pick(&[0, 1, 2, 3, 5, 7, 8, 8]);
@@ -113,12 +114,13 @@ fn place_to_damage(random: &mut Random, used: u8, places: usize) -> usize {
 }
 
 fn damage_file(random: &mut Random, file: &mut File) {
-    match random.below(6) {
+    match random.below(7) {
         0 => file.premise = random.pick(&[0, 1, 2, u64::MAX]),
         1 => file.retailer = odd_retailer(random),
         2 => file.since = odd_day(random),
         3 => file.agreement = odd_retailer(random),
         4 => file.moved_in = random.pick(&[0, 1, 2, 255]),
+        5 => file.window.0 = random.pick(&[0, 1, 5, 6, 255]),
         _ => file.order_count = random.pick(&[0, 1, 7, 8, 9, 255]),
     }
 }

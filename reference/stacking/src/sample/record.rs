@@ -6,7 +6,7 @@ use crate::file::{File, NO_AGREEMENT};
 use crate::order::{kind, status, Order, LARGEST_RETAILER};
 use crate::premise::{DAYS_AHEAD, DAYS_BACK};
 use crate::random::Random;
-use crate::record::{Agreement, Entry, Event, Fields, NewOrder, Record, RECORD_BYTES};
+use crate::record::{Agreement, Entry, Event, Fields, NewFile, NewOrder, Record, RECORD_BYTES};
 
 /// Makes records for a set of premises and a few retailers. Most suit the book
 /// and are taken; the rest meet one row or another.
@@ -89,10 +89,11 @@ impl RecordMaker {
         let premise = self.premise_for(random, book, sort);
         let file = book.held().iter().find(|file| file.premise == premise);
         let entry = match sort {
-            Sort::Create => Entry::Create {
+            Sort::Create => Entry::Create(NewFile {
                 since: day_near(random, book.today),
                 retailer: self.retailer_or_none(random),
-            },
+                window: random.pick(&[0, 0, 0, 1, 2, 3, 4, 5]),
+            }),
             Sort::Retire => Entry::Retire,
             Sort::NewOrder => Entry::new_order(self.new_order(random, book.today, file)),
             Sort::Agreement => Entry::Agreement(self.agreement(random, file)),
@@ -381,7 +382,7 @@ fn wrong_mark(random: &mut Random, today: u16) -> Record {
 fn spoiled(random: &mut Random, mut fields: Fields) -> Fields {
     match random.below(7) {
         0 => fields.kind = random.pick(&[0, 13, 255]),
-        1 => fields.detail = random.pick(&[0, 3, 6, 255]),
+        1 => fields.detail = random.pick(&[0, 3, 6, 6, 255]),
         2 => fields.day = random.pick(&[NO_DAY, u16::MAX, 1]),
         3 => fields.reference = random.pick(&[0, 1]),
         4 => fields.premise = random.pick(&[0, 1]),

@@ -114,10 +114,11 @@ fn other_file() -> File {
 fn other_create() -> [u8; 24] {
     Record::OfPremise {
         premise: 8,
-        entry: Entry::Create {
+        entry: Entry::Create(NewFile {
             since: 0,
             retailer: 0,
-        },
+            window: 0,
+        }),
     }
     .to_bytes()
 }

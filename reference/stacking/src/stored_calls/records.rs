@@ -33,10 +33,11 @@ fn files() -> Vec<Stored> {
     let three = [numbered(6, &[]), file(&closed), numbered(8, &closed)];
     let largest = Record::OfPremise {
         premise: u64::MAX,
-        entry: Entry::Create {
+        entry: Entry::Create(NewFile {
             since: 4_095,
             retailer: 999_999_999,
-        },
+            window: 5,
+        }),
     };
     vec![
         stored("create between two files", &others, create(4, HOLDER)),

@@ -66,10 +66,11 @@ fn first_rows() -> Vec<Stored> {
 fn full_create(premise: u64) -> [u8; 24] {
     Record::OfPremise {
         premise,
-        entry: Entry::Create {
+        entry: Entry::Create(NewFile {
             since: 4,
             retailer: HOLDER,
-        },
+            window: 0,
+        }),
     }
     .to_bytes()
 }

@@ -84,6 +84,7 @@ fn kept() -> Vec<Stored> {
     most.since = 4_095;
     most.agreement = 999_999_999;
     most.moved_in = 1;
+    most.window = BusinessDays(5);
     let last = book(4_094, &[File::new(1, 0, 0), most]);
     let first = book(
         0,
@@ -115,6 +116,11 @@ fn kept() -> Vec<Stored> {
         }),
         with_order("well kept: Unexecutable without a day", 7, |order| {
             order.scheduled_day = NO_DAY
+        }),
+        marked("well kept: windows of 1, 3 and 4", |book| {
+            book.files[0].window.0 = 1;
+            book.files[1].window.0 = 3;
+            book.files[2].window.0 = 4;
         }),
         marked("well kept: the mark, with and without R", |book| {
             book.files[0].moved_in = 1;
@@ -160,6 +166,11 @@ fn heads() -> Vec<Stored> {
         marked("row 2: S 4,096", |book| book.files[1].since = 4_096),
         marked("row 2: C 1,000,000,000", |book| {
             book.files[1].agreement = 1_000_000_000
+        }),
+        marked("row 2: a window of 0", |book| book.files[1].window.0 = 0),
+        marked("row 2: a window of 6", |book| book.files[0].window.0 = 6),
+        marked("row 2: a window of 255", |book| {
+            book.files[2].window.0 = 255
         }),
         marked("row 2: a mark of 2", |book| book.files[1].moved_in = 2),
         marked("row 2: a mark of 255", |book| book.files[2].moved_in = 255),
@@ -300,6 +311,9 @@ fn unused() -> Vec<Stored> {
         unused_file("row 2: P in an unused file", |file| file.premise = u64::MAX),
         unused_file("row 2: R in an unused file", |file| file.retailer = 1),
         unused_file("row 2: S in an unused file", |file| file.since = 1),
+        unused_file("row 2: a window in an unused file", |file| {
+            file.window.0 = 2
+        }),
         unused_file("row 2: C in an unused file", |file| file.agreement = 1),
         unused_file("row 2: a mark in an unused file", |file| file.moved_in = 1),
         unused_file("row 2: a count in an unused file", |file| {

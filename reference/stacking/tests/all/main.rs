@@ -16,3 +16,4 @@ mod single_calls;
 mod steps;
 mod support;
 mod tape;
+mod window;

@@ -14,7 +14,7 @@ struct Use {
 
 /// In the order of the paper's list, with its fields in brackets.
 const USED: [Use; 12] = [
-    uses(1, &[0], "day premise retailer"),
+    uses(1, &[0, 1, 2, 3, 4, 5], "day premise retailer"),
     uses(2, &[0], "premise"),
     uses(3, &[1, 2, 3, 4, 5], "day reference premise retailer"),
     uses(4, &[0], "day reference premise"),

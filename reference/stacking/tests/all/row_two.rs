@@ -136,7 +136,7 @@ fn premises_rise() {
 }
 
 #[test]
-fn a_file_has_its_retailers_since_and_mark_in_range() {
+fn a_file_has_its_retailers_since_window_and_mark_in_range() {
     for place in 0..3 {
         for retailer in [0, 1, 999_999_999] {
             assert!(!answered_2(&with(
@@ -153,6 +153,10 @@ fn a_file_has_its_retailers_since_and_mark_in_range() {
             assert!(answered_2(&with(
                 |book| book.files[place].agreement = retailer
             )));
+        }
+        for width in 0..=255 {
+            let changed = with(|book| book.files[place].window = BusinessDays(width));
+            assert_eq!(answered_2(&changed), !(1..=5).contains(&width));
         }
         for moved_in in 0..=255 {
             let changed = with(|book| book.files[place].moved_in = moved_in);
@@ -339,6 +343,9 @@ fn unused_places_of_the_book_are_zero() {
         assert!(answered_2(&with(|book| book.files[place].retailer = 1)));
         assert!(answered_2(&with(|book| book.files[place].since = 1)));
         assert!(answered_2(&with(|book| book.files[place].agreement = 1)));
+        assert!(answered_2(&with(
+            |book| book.files[place].window = BusinessDays(2)
+        )));
         assert!(answered_2(&with(|book| book.files[place].moved_in = 1)));
         assert!(answered_2(&with(|book| book.files[place].order_count = 1)));
         for change in ORDER_FIELDS {

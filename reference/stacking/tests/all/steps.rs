@@ -36,7 +36,10 @@ fn no_day_lies_past_4095_however_long_the_calendar() {
     let mut calendar = vec![2; 5_000];
     calendar[4_096..].fill(0);
     assert_eq!(switch_date(&calendar, 4_000), None);
-    assert!(in_window(&calendar, 4_000, 4_095) && !in_window(&calendar, 4_000, NONE));
+    for width in 1..=5 {
+        assert!(in_window(&calendar, 4_000, BusinessDays(width), 4_095));
+        assert!(!in_window(&calendar, 4_000, BusinessDays(width), NONE));
+    }
 }
 
 #[test]
@@ -44,20 +47,21 @@ fn the_window_is_what_the_document_says() {
     let calendar: Vec<u8> = (0..90u8)
         .map(|day| [0, 1, 0, 2, 2, 0, 7][usize::from(day) % 7])
         .collect();
-    for today in 0..100 {
+    for (today, width) in (0..100).flat_map(|today| (1..=5).map(move |width| (today, width))) {
+        let window = BusinessDays(width);
         let mut business_days_before = 0;
-        for scheduled_day in 0..=4_095 {
-            let expected = business_days_before <= 2;
+        for scheduled_day in (0..300).chain([4_095]) {
+            let expected = business_days_before <= width;
             assert_eq!(
-                in_window(&calendar, today, scheduled_day),
+                in_window(&calendar, today, window, scheduled_day),
                 expected,
-                "{today} {scheduled_day}"
+                "{today} {width} {scheduled_day}"
             );
             if scheduled_day >= today && is_business_day(&calendar, scheduled_day) {
                 business_days_before += 1;
             }
         }
-        assert!(!in_window(&calendar, today, NONE));
+        assert!(!in_window(&calendar, today, window, NONE));
     }
 }
 

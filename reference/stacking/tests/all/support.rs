@@ -5,7 +5,7 @@ use stacking::days::CALENDAR_BYTES;
 use stacking::file::File;
 use stacking::notice::NOTICE_BUFFER_BYTES;
 use stacking::order::Order;
-use stacking::record::{Agreement, Entry, Event, Fields, NewOrder, Record, RECORD_BYTES};
+use stacking::record::{Agreement, Entry, Event, Fields, NewFile, NewOrder, Record, RECORD_BYTES};
 use stacking::rules::OnePremise;
 
 /// The byte that buffers are filled with, to see what is written.
@@ -48,7 +48,16 @@ pub fn mark(day: u16) -> [u8; RECORD_BYTES] {
 }
 
 pub fn create(since: u16, retailer: u32) -> Entry {
-    Entry::Create { since, retailer }
+    create_with(since, retailer, 0)
+}
+
+/// With a window; 0 means two business days.
+pub fn create_with(since: u16, retailer: u32, window: u8) -> Entry {
+    Entry::Create(NewFile {
+        since,
+        retailer,
+        window,
+    })
 }
 
 pub fn new_order(kind: u8, day: u16, reference: u32) -> Entry {

@@ -38,8 +38,9 @@ fn its_bytes_give_its_text() {
 /// One record of each form with fields that fill their width, by line and by
 /// bytes: kind and detail, day, reference, premise, retailer or counter.
 #[rustfmt::skip]
-const FORMS: [(&str, [u64; 6]); 19] = [
+const FORMS: [(&str, [u64; 6]); 20] = [
     ("create premise 18446744073709551615 day 65535 retailer 4294967295", [1, 0, 65_535, 0, u64::MAX, 4_294_967_295]),
+    ("create premise 1 day 3 retailer 4 window 255", [1, 255, 3, 0, 1, 4]),
     ("retire premise 258", [2, 0, 0, 0, 258, 0]),
     ("move-in premise 1 reference 2 day 3 retailer 4", [3, 1, 3, 2, 1, 4]),
     ("move-out premise 1 reference 2 day 3 retailer 4", [3, 2, 3, 2, 1, 4]),

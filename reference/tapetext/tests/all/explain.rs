@@ -89,6 +89,12 @@ fn each_row_has_its_words() {
              field is out of range, or an unused field is not zero",
         ),
         (
+            "create premise 8 day 3 retailer 101 window 6",
+            3,
+            "create, premise 8, day 3, retailer 101, window 6: its length is not 24, its kind, \
+             detail or a field is out of range, or an unused field is not zero",
+        ),
+        (
             "retire premise 8",
             4,
             "retire, premise 8: there is no such premise",

@@ -4,11 +4,11 @@
 use tapetext::{decode, encode, Tape, CALENDAR_DAYS, RECORD_BYTES};
 
 #[rustfmt::skip]
-const WORDS: [&str; 28] = [
+const WORDS: [&str; 29] = [
     "calendar", "absent", "9", "days,", "holiday", "day-kind", "2..3", "3..2", "create", "retire",
     "move-in", "reply", "accept", "day", "days", "raw", "0a", "premise", "reference", "retailer",
     "#", "7", "99999999999999999999", "\u{e9}", "date-change", "counter",
-    "establish", "delete",
+    "establish", "delete", "window",
 ];
 
 /// SplitMix64: a seed gives the same tapes on every machine.

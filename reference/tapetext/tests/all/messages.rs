@@ -61,6 +61,10 @@ fn wrong_fields() {
         "reference is missing; \
          expected \"standard-switch premise N reference N retailer N [day N]\"",
     );
+    assert_said(
+        "create premise 7 day 0",
+        "retailer is missing; expected \"create premise N day N retailer N [window N]\"",
+    );
     assert_said("day", "day has 0 words after it; expected \"day N\"");
     assert_said("day 1 2", "day has 2 words after it; expected \"day N\"");
 }
@@ -85,6 +89,11 @@ fn numbers_that_do_not_fit_their_field() {
             "4294967295",
         ),
         ("days 1..65536", "day 65536", "65535"),
+        (
+            "create premise 1 day 0 retailer 1 window 256",
+            "window 256",
+            "255",
+        ),
         (
             "date-change premise 1 reference 1 day 0 counter 4294967296",
             "counter 4294967296",

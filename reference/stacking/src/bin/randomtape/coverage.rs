@@ -7,7 +7,7 @@
 use stacking::answer::Answer;
 use stacking::book::{record_call, Book};
 use stacking::clock::{self, LONGEST_WAIT, REVIEW_WAIT};
-use stacking::days::{is_business_day, switch_date};
+use stacking::days::{is_business_day, switch_date, USUAL_WINDOW, WIDEST_WINDOW};
 use stacking::evaluation;
 use stacking::file::{File, NO_AGREEMENT};
 use stacking::first_in;
@@ -86,6 +86,10 @@ pub struct Coverage {
     agreements_read: u64,
     /// Move outs read on the day of a move in.
     held_off: u64,
+    /// By the window that a create gave.
+    windows: [u64; 1 + WIDEST_WINDOW.0 as usize],
+    /// Evaluations that a window of two business days would end otherwise.
+    decided_by_window: u64,
     /// Records but a scheduling and a mark that told of a move out.
     told_later: u64,
     branches: [u64; BRANCHES.len()],
@@ -150,7 +154,10 @@ impl Coverage {
                 Entry::Retire => {
                     retired.insert(premise);
                 }
-                Entry::Create { .. } => self.created_again += u64::from(retired.contains(&premise)),
+                Entry::Create(new) => {
+                    self.created_again += u64::from(retired.contains(&premise));
+                    self.windows[usize::from(new.window)] += 1;
+                }
                 _ => {}
             }
         }
@@ -255,11 +262,17 @@ impl Coverage {
     }
 
     fn count_passes(&mut self, mut file: File, calendar: &[u8], today: u16) {
+        let mut usual = File {
+            window: USUAL_WINDOW,
+            ..file
+        };
+        with_writer(|notices| evaluation::run(&mut usual, calendar, today, notices));
         for (counts, pass) in self.passes.iter_mut().zip(PASS_STEPS) {
             let before = file;
             with_writer(|notices| pass(&mut file, calendar, today, notices));
             counts[usize::from(file != before)] += 1;
         }
+        self.decided_by_window += u64::from(file.orders != usual.orders);
     }
 
     /// Every count with its name, in the paper's order.
@@ -309,6 +322,13 @@ impl Coverage {
             lines.push((format!("pass {name}, did not act"), idle));
         }
         self.push_table(&mut lines);
+        for (width, &count) in self.windows.iter().enumerate() {
+            lines.push((format!("create with window {width}, accepted"), count));
+        }
+        lines.push((
+            "evaluation that its window decides".into(),
+            self.decided_by_window,
+        ));
         lines.push(("oldest closed order dropped".into(), self.dropped));
         lines.push(("read before since".into(), self.late_reads));
         lines.push(("retired premise created again".into(), self.created_again));

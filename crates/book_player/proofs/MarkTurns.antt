@@ -1,21 +1,24 @@
 -- A turn of a day mark: the next file is marked, or stays since the mark does not change it. Assumes nothing.
-use Prim.Native.Nat.{ℕ, _+_, _<_}
+use Prim.Native.Nat.{ℕ, _+_, _-_, _≤_, _<_}
 use mathlib.Core.Path.{_≡_, sym, ap, subst, subst⁻¹, _∙_}
 use mathlib.Core.List.{List, [], _∷_, _++_, append-nil, map-append}
 use mathlib.Core.Bool.{Bool, false}
 use native.Mathlib.Numerals.{add-one}
 use native.Mathlib.Omega.{arith}
+use lib.Dec.{leb}
 use lib.ListN.{take, drop, length, getD, set, length-take}
 use lib.Seq.{take-suc, set-getD}
+use borrow.Author.Tests.{leb-true}
 use Rattle.lists.proofs.SearchLaws.{each-at}
+use Rattle.lists.proofs.TestLaws.{and-left, and-right}
 use Rattle.lists.proofs.Over.{next-at, next-stored}
 use Rattle.days.specs.Days.{isBusinessDay}
-use Rattle.days.specs.Window.{windowWidth, LastInWindow}
+use Rattle.days.specs.Window.{mostWidth, LastInWindow, LastDays}
 use Rattle.records.specs.declared.Notice.{Notice}
 use Rattle.premise.specs.declared.File.{File}
 use Rattle.premise.specs.declared.FileAfter.{FileAfter}
 use Rattle.premise.specs.OnePremise.{marked}
-use Rattle.premise.specs.WellKept.{Tidy}
+use Rattle.premise.specs.WellKept.{Tidy, FileKept}
 use Rattle.premise.specs.Promises.{Room, Writes, DoneToFile}
 use Rattle.premise_laws.proofs.Writes.{room-then, writes-then}
 use Rattle.premise_laws.specs.Changes.{markChangesFile}
@@ -82,9 +85,28 @@ module _ {calendar : List ℕ} {day : ℕ} {b : Book} {standing : ℕ} {buffer :
       ∙ next-at past done (b .files) i done-length has-place
       ∙ at-file b i h
 
-  -- it is tidy, and there is room for its notices
+  -- it is well kept: tidy, and its window has one of the widths of which the last days are known; and there is room for its notices
+  kept : FileKept (getD (c .files) i past)
+  kept = subst⁻¹ FileKept same-file (each-at FileKept (filesOf b) i past inside (m .asked .1))
+
   pub mark-tidy : Tidy (getD (c .files) i past)
-  mark-tidy = subst⁻¹ Tidy same-file (each-at Tidy (filesOf b) i past inside (m .asked .1))
+  mark-tidy = kept .tidy
+
+  -- its width, as a place among the five
+  abbrev width : ℕ
+  width = getD (c .files) i past .window
+
+  pub mark-width : (1 ≤ width) × (width ≤ mostWidth)
+  mark-width =
+      (leb-true 1 width (and-left (leb 1 width) (leb width mostWidth) (kept .window)),
+      leb-true width mostWidth (and-right (leb 1 width) (leb width mostWidth) (kept .window)))
+
+  -- the last day in its window stands there
+  pub mark-window : (ends : List ℕ) → LastDays calendar day ends → LastInWindow calendar width day (getD ends (width - 1) 0)
+  mark-window ends lasts =
+      let e : width - 1 + 1 ≡ width = omega (arith, mark-width .0) in
+      subst (λ (w : ℕ). LastInWindow calendar w day (getD ends (width - 1) 0)) e
+      (lasts .each (width - 1) (omega (arith, mark-width .0, mark-width .1)))
 
   pub mark-room : Room sent (marked calendar day (getD (c .files) i past) .notices) after
   mark-room =
@@ -113,7 +135,7 @@ module _ {calendar : List ℕ} {day : ℕ} {b : Book} {standing : ℕ} {buffer :
       }
 
   -- a turn on a file that the mark does not touch
-  pub mark-still : {business touches : Bool} (last : ℕ) → business ≡ isBusinessDay calendar day → LastInWindow calendar windowWidth day last
+  pub mark-still : {business touches : Bool} (last : ℕ) → business ≡ isBusinessDay calendar day → LastInWindow calendar width day last
       → touches ≡ markChangesFile business day last (getD (c .files) i past) → touches ≡ false
       → Marking calendar day b standing buffer (i + 1) sent c after
   mark-still last day-kind window tested stays =

@@ -6,12 +6,11 @@ use native.Mathlib.Omega.{arith}
 use lib.ListN.{take, drop, length, take-append-drop, length-map}
 use lib.Seq.{take-all}
 use Rattle.lists.specs.Search.{Each}
-use Rattle.lists.proofs.SearchLaws.{each-map}
 use Rattle.records.specs.declared.Notice.{Notice}
 use Rattle.records.specs.Layout.{recordLength}
 use Rattle.premise.specs.declared.File.{File}
 use Rattle.premise.specs.OnePremise.{marked}
-use Rattle.premise.specs.WellKept.{Tidy, FileKept}
+use Rattle.premise.specs.WellKept.{FileKept}
 use Rattle.premise.specs.Promises.{Room, Writes}
 use Rattle.premise_laws.proofs.Writes.{writes-none, writes-length, room-first}
 use Rattle.book.specs.declared.Book.{Book}
@@ -33,12 +32,12 @@ dated-tidy day b tidy = record { few = tidy .few; whole = ap (dated day) (tidy .
 
 -- what a mark asks of a book and of the buffer for its notices, in which some stand already
 abbrev pub Asked : List ℕ → ℕ → Book → ℕ → List ℕ → Type 0
-Asked calendar day b standing buffer = TidyBook b × Each Tidy (filesOf b) × Room standing (markedNotices calendar day (filesOf b)) buffer
+Asked calendar day b standing buffer =
+    TidyBook b × Each FileKept (filesOf b) × Room standing (markedNotices calendar day (filesOf b)) buffer
 
 pub mark-asks : (calendar : List ℕ) (b : Book) (day standing : ℕ) (buffer : List ℕ) → BookKept b
     → noticeBytes ≤ length buffer - recordLength * standing → Asked calendar day b standing buffer
-mark-asks calendar b day standing buffer k room =
-    (k .tidy, each-map FileKept Tidy (λ f u. u .tidy) (filesOf b) (k .files), omega (arith, mark-all-few calendar b day k, room))
+mark-asks calendar b day standing buffer k room = (k .tidy, k .files, omega (arith, mark-all-few calendar b day k, room))
 
 -- a mark after i files, on a book that has the new day: the first i files are done, their notices sent
 pub record Marking (calendar : List ℕ) (day : ℕ) (b : Book) (standing : ℕ) (buffer : List ℕ) (i sent : ℕ) (c : Book) (after : List ℕ)

@@ -71,13 +71,14 @@ pub fn play(
             }
             Task::NextDay(day) => {
                 let business = days::is_business_day(calendar, day);
-                let end = days::last_in_window(calendar, days::WINDOW_WIDTH, day);
+                let ends = days::last_days(calendar, day);
                 c.today = day;
                 let mut place: usize = 0;
                 while place < count {
                     let f = c.files[place];
                     let at = place;
                     place += 1;
+                    let end = ends[f.window as usize - 1];
                     if premise_steps::mark_changes_file(business, day, end, f) {
                         // read again: from one variable, into which the clock stores, every file that is asked would be copied
                         let before = c.files[at];

@@ -15,12 +15,12 @@ use record_bytes::wide;
 const ORDER_BYTES: usize = 21;
 
 // a file: its head, and 8 orders
-const HEAD_BYTES: usize = 20;
+const HEAD_BYTES: usize = 21;
 
-const FILE_BYTES: usize = 188;
+const FILE_BYTES: usize = 189;
 
 // a book: its head of 3 bytes, and 64 files
-pub const BOOK_BYTES: usize = 12_035;
+pub const BOOK_BYTES: usize = 12_099;
 
 // An order, from its 21 bytes.
 fn order_from(bytes: &[u8], at: usize) -> Order
@@ -42,23 +42,24 @@ fn order_from(bytes: &[u8], at: usize) -> Order
     }
 }
 
-// A file with no order yet, from the 20 bytes of its head.
+// A file with no order yet, from the 21 bytes of its head.
 fn head_from(bytes: &[u8], at: usize) -> File
-    requires { ⌜ at + 20 ≤ length (now bytes) ⌝ }
+    requires { ⌜ at + 21 ≤ length (now bytes) ⌝ }
 {
     let mut file = premise_file::blank_file();
     file.premise = eight(bytes, at);
     file.retailer = four(bytes, at + 8);
     file.since = two(bytes, at + 12);
     file.count = wide(bytes[at + 14]) as usize;
-    file.agreement = four(bytes, at + 15);
-    file.entered = bytes[at + 19];
+    file.window = bytes[at + 15];
+    file.agreement = four(bytes, at + 16);
+    file.entered = bytes[at + 20];
     file
 }
 
-// A file, from its 188 bytes.
+// A file, from its 189 bytes.
 fn file_from(bytes: &[u8], at: usize) -> File
-    requires { ⌜ at + 188 ≤ length (now bytes) ⌝ }
+    requires { ⌜ at + 189 ≤ length (now bytes) ⌝ }
 {
     let mut file = head_from(bytes, at);
     let mut i: usize = 0;
@@ -72,9 +73,9 @@ fn file_from(bytes: &[u8], at: usize) -> File
     file
 }
 
-// A book, from its 12,035 bytes.
+// A book, from its 12,099 bytes.
 pub fn book_from(bytes: &[u8]) -> Book
-    requires { ⌜ 12035 ≤ length (now bytes) ⌝ }
+    requires { ⌜ 12099 ≤ length (now bytes) ⌝ }
 {
     let mut b = book_files::empty(two(bytes, 0));
     b.count = wide(bytes[2]) as usize;

@@ -96,6 +96,7 @@ fn say_file(place: usize, f: File) {
             f.retailer as u64,
             f.since as u64,
             f.count as u64,
+            f.window as u64,
             f.agreement as u64,
             f.entered as u64,
         ],

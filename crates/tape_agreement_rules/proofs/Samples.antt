@@ -11,10 +11,10 @@ use Rattle.records.specs.Notices.{encode}
 use Rattle.premise.specs.Orders.{places}
 use Rattle.premise.specs.WellKept.{orderKept, isBlank, fileKept, fileBlank}
 use Rattle.premise.specs.Refusals.{number, premiseRows, orderRows}
-use Rattle.premise.specs.OnePremise.{stepped, step}
+use Rattle.premise.specs.OnePremise.{steppedWith, stepWith}
 use Rattle.book.specs.declared.Book.{Book}
 use Rattle.book.specs.Book.{bookOf, bookKept, freshBook, fileFor, putIn, takenOut}
-use Rattle.book.specs.Calls.{callRows, call}
+use Rattle.book.specs.Calls.{callRowsWith, callWith}
 use Rattle.book.proofs.Kept.{fresh-kept}
 use Rattle.book.proofs.Keeps.{call-keeps}
 use Rattle.book.proofs.Row6.{answered-full}
@@ -87,6 +87,6 @@ equal =
     (short-calls (joined shuffled) shuffled (tapes .second) (tapes .cut₂))
 
 pub comes : Comes
-unfolding places number premiseRows orderRows stepped step orderKept isBlank fileKept fileBlank fieldOf encode wellFormed reading bookOf
-    bookKept fileFor putIn takenOut callRows call lent made plays
+unfolding places number premiseRows orderRows steppedWith stepWith orderKept isBlank fileKept fileBlank fieldOf encode wellFormed reading bookOf
+    bookKept fileFor putIn takenOut callRowsWith callWith lent made plays
 comes = record { same = tapes .same; books = equal; room = refl; full = refl; left = refl; fewer = refl }

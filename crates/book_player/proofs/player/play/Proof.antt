@@ -5,12 +5,14 @@ use Prim.Native.Nat.{_*_, _-_, _≤_, _<_}
 use mathlib.Core.Path.{refl, sym, _∙_}
 use mathlib.Core.Logic.{⊎-elim}
 use native.Mathlib.Omega.{arith}
-use lib.ListN.{length, take, drop}
+use lib.ListN.{length, take, drop, getD}
+use Rattle.days.specs.Window.{mostWidth}
 use Rattle.records.specs.Layout.{recordLength}
 use Rattle.book.specs.Book.{mostFiles}
 use Rattle.book.specs.Calls.{noticeBytes}
+use Rattle.book_files.proofs.Tidy.{past}
 use Rattle.book_player.proofs.Marking.{Marking, mark-none}
-use Rattle.book_player.proofs.MarkTurns.{mark-place, mark-tidy, mark-room, mark-more, mark-still}
+use Rattle.book_player.proofs.MarkTurns.{mark-place, mark-tidy, mark-width, mark-window, mark-room, mark-more, mark-still}
 use Rattle.book_player.proofs.Ways.{Standing, Made, made-as, each-place, task-asks, by-refusal, held-place, held-asks, by-file}
 use Rattle.book_player.proofs.Ways.{day-asks, by-marks, open-asks, by-opening, close-place, closed-tidy, close-asks}
 use Rattle.book_player.proofs.Ways.{by-open-order, by-closing}
@@ -82,32 +84,37 @@ loop2-holds c =
 marks-within : (i : tie.In-loop2 Inv-loop2 μ-loop2 Inv-loop μ-loop) → i .before .loop2 .place < mostFiles
 marks-within i = mark-place (i .before .loop2 .inv) (i .loop2-test .taken)
 
+-- its window has one of the widths of which the last days are known
+marks-width : (k : tie.After-struct-known Inv-loop2 μ-loop2 Inv-loop μ-loop)
+    → (let l = k .before .before .before .loop2 in let width = getD (l .c .files) (l .place) past .window in (1 ≤ width) × (width ≤ mostWidth))
+marks-width k = let i = k .before .before in mark-width (i .before .loop2 .inv) (i .loop2-test .taken)
+
 mark-changes-file-requires : tie.Need-mark-changes-file-requires Inv-loop2 μ-loop2 Inv-loop μ-loop
-mark-changes-file-requires c κs = let i = c .before in mark-tidy (i .before .loop2 .inv) (i .loop2-test .taken)
+mark-changes-file-requires c κs = let i = c .before .before in mark-tidy (i .before .loop2 .inv) (i .loop2-test .taken)
 
 mark-requires : tie.Need-mark-requires Inv-loop2 μ-loop2 Inv-loop μ-loop
 mark-requires c κs =
-    let i = c .before .before .before .before .before in
+    let i = c .before .before .before .before .before .before in
     let j = i .before in
     record {
       tidy = mark-tidy (j .loop2 .inv) (i .loop2-test .taken);
       room = omega (arith, mark-room (j .loop2 .inv) (i .loop2-test .taken));
-      window = j .before .last-in-window .ensures;
+      window = mark-window (j .loop2 .inv) (i .loop2-test .taken) _ (j .before .last-days .ensures);
     }
 
 loop2-again : tie.Need-loop2-again Inv-loop2 μ-loop2 Inv-loop μ-loop
 loop2-again c =
     let x = c .before .before .before in
-    let i = x .before .before .before .before .before .before in
+    let i = x .before .before .before .before .before .before .before in
     mark-more (i .before .loop2 .inv) (i .loop2-test .taken) (x .mark .result) (x .mark .ensures)
 
 loop2-again-2 : tie.Need-loop2-again-2 Inv-loop2 μ-loop2 Inv-loop μ-loop
 loop2-again-2 c =
     let u = c .before in
-    let i = u .before .before in
-    let n = i .before .before in
-    mark-still (i .before .loop2 .inv) (i .loop2-test .taken) _ (n .before .is-business-day .ensures) (n .last-in-window .ensures)
-    (u .mark-changes-file .ensures) (c .if3 .left)
+    let i = u .before .before .before in
+    let j = i .before in
+    mark-still (j .loop2 .inv) (i .loop2-test .taken) _ (j .before .before .is-business-day .ensures)
+    (mark-window (j .loop2 .inv) (i .loop2-test .taken) _ (j .before .last-days .ensures)) (u .mark-changes-file .ensures) (c .if3 .left)
 
 -- ---- it opens a place, or closes one
 insert-requires : tie.Need-insert-requires Inv-loop2 μ-loop2 Inv-loop μ-loop
@@ -247,15 +254,19 @@ play-spec =
     (λ c. omega (arith, marks-within c))
     (λ c. omega (arith, marks-within c))
     (λ c. omega (arith, marks-within (c .before)))
+    (λ c. omega (arith, marks-width c .1))
+    (λ c. omega (arith, marks-width c .0))
+    (λ c. omega (arith, marks-width c .1))
+    (λ c. omega (arith, marks-width c .0, marks-width c .1))
     mark-changes-file-requires
-    (λ c. omega (arith, marks-within (c .before .before .before)))
-    (λ c. omega (arith, marks-within (c .before .before .before)))
+    (λ c. omega (arith, marks-within (c .before .before .before .before)))
+    (λ c. omega (arith, marks-within (c .before .before .before .before)))
     mark-requires
-    (λ c. omega (arith, marks-within (c .before .before .before .before .before .before .before .before .before)))
-    (λ c. omega (arith, marks-within (c .before .before .before .before .before .before .before .before .before)))
-    (λ c. omega (arith, c .before .before .before .before .before .before .before .before .before .loop2-test .taken))
+    (λ c. omega (arith, marks-within (c .before .before .before .before .before .before .before .before .before .before)))
+    (λ c. omega (arith, marks-within (c .before .before .before .before .before .before .before .before .before .before)))
+    (λ c. omega (arith, c .before .before .before .before .before .before .before .before .before .before .loop2-test .taken))
     loop2-again
-    (λ c. omega (arith, c .before .before .before .loop2-test .taken))
+    (λ c. omega (arith, c .before .before .before .before .loop2-test .taken))
     loop2-again-2
     (λ c. c .match .keys4)
     (λ c κs. tt)

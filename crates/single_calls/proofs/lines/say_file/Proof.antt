@@ -22,6 +22,9 @@ cast-t17 c = search needs
 cast-t19 : tie.Need-cast-t19 Inv-loop μ-loop
 cast-t19 c = search needs
 
+cast-t21 : tie.Need-cast-t21 Inv-loop μ-loop
+cast-t21 c = search needs
+
 slice-aggregate-say : tie.Need-slice-aggregate-say Inv-loop μ-loop
 slice-aggregate-say c = search needs
 
@@ -65,6 +68,7 @@ say-file-spec =
     cast-t13
     cast-t17
     cast-t19
+    cast-t21
     slice-aggregate-say
     say-requires
     loop-holds

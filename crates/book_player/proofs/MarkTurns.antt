@@ -97,9 +97,10 @@ module _ {calendar : List ℕ} {day : ℕ} {b : Book} {standing : ℕ} {buffer :
   width = getD (c .files) i past .window
 
   pub mark-width : (1 ≤ width) × (width ≤ mostWidth)
-  mark-width =
-      (leb-true 1 width (and-left (leb 1 width) (leb width mostWidth) (kept .window)),
-      leb-true width mostWidth (and-right (leb 1 width) (leb width mostWidth) (kept .window)))
+  mark-width = (
+    leb-true 1 width (and-left (leb 1 width) (leb width mostWidth) (kept .window)),
+    leb-true width mostWidth (and-right (leb 1 width) (leb width mostWidth) (kept .window)),
+  )
 
   -- the last day in its window stands there
   pub mark-window : (ends : List ℕ) → LastDays calendar day ends → LastInWindow calendar width day (getD ends (width - 1) 0)

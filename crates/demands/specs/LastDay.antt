@@ -81,7 +81,16 @@ switchOf reference submitter =
 
 abbrev pub fileOf : ℕ → ℕ → Order → File
 fileOf premise retailer order =
-    record { premise = premise; retailer = retailer; since = 0; window = 2; agreement = 0; entered = 0; count = 1; orders = order ∷ replicate 7 blank }
+    record {
+      premise = premise;
+      retailer = retailer;
+      since = 0;
+      window = 2;
+      agreement = 0;
+      entered = 0;
+      count = 1;
+      orders = order ∷ replicate 7 blank;
+    }
 
 -- ---- the calls
 -- one call: the record's bytes, the buffer that it was lent, what it returned, and the buffer on return

@@ -13,7 +13,8 @@ use Rattle.records.specs.Records.{kindAgreement, standardSwitch, massTra
 use Rattle.records.specs.Records.{aPremise, aRetailer, aRetailerOrNone, aCounter, anOrderKind, aReply, anAgreement, orderDay}
 use Rattle.records.specs.Records.{delete, aWindow, wellFormed}
 use Rattle.records.specs.Kinds.{holds, datedHolds, undatedHolds, holdsByKind}
-use Rattle.records.specs.Laws.{Unused, ADay, AWindow, Given, ARetailerOrNone, FieldsOfKind, fieldsByKind, Fields, UpTo, OrderDay, Formed}
+use Rattle.records.specs.Laws.{Unused, ADay, AWindow, Given, ARetailerOrNone, FieldsOfKind, fieldsByKind, Fields, UpTo, OrderDay}
+use Rattle.records.specs.Laws.{Formed}
 use Rattle.records.proofs.Ranges.{window-range}
 use Rattle.records.proofs.ByNumber.{_also_, every-at, Means, means-at}
 use Rattle.records.proofs.ByKind.{formed-at, formed-past}

@@ -87,6 +87,6 @@ equal =
     (short-calls (joined shuffled) shuffled (tapes .second) (tapes .cut₂))
 
 pub comes : Comes
-unfolding places number premiseRows orderRows steppedWith stepWith orderKept isBlank fileKept fileBlank fieldOf encode wellFormed reading bookOf
-    bookKept fileFor putIn takenOut callRowsWith callWith lent made plays
+unfolding places number premiseRows orderRows steppedWith stepWith orderKept isBlank fileKept fileBlank fieldOf encode wellFormed reading
+    bookOf bookKept fileFor putIn takenOut callRowsWith callWith lent made plays
 comes = record { same = tapes .same; books = equal; room = refl; full = refl; left = refl; fewer = refl }

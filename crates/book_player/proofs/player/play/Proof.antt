@@ -86,7 +86,9 @@ marks-within i = mark-place (i .before .loop2 .inv) (i .loop2-test .taken)
 
 -- its window has one of the widths of which the last days are known
 marks-width : (k : tie.After-struct-known Inv-loop2 μ-loop2 Inv-loop μ-loop)
-    → (let l = k .before .before .before .loop2 in let width = getD (l .c .files) (l .place) past .window in (1 ≤ width) × (width ≤ mostWidth))
+    → (let l = k .before .before .before .loop2 in
+    let width = getD (l .c .files) (l .place) past .window in
+    (1 ≤ width) × (width ≤ mostWidth))
 marks-width k = let i = k .before .before in mark-width (i .before .loop2 .inv) (i .loop2-test .taken)
 
 mark-changes-file-requires : tie.Need-mark-changes-file-requires Inv-loop2 μ-loop2 Inv-loop μ-loop

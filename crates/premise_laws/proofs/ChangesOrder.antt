@@ -2,19 +2,16 @@
 use Prim.Native.Nat.{ℕ}
 use mathlib.Core.Path.{_≡_, refl, sym, ap, _∙_}
 use mathlib.Core.List.{List}
-use mathlib.Core.Bool.{Bool, true, false, not, _&&_, _||_, false≢true}
-use lib.Dec.{eqb}
+use mathlib.Core.Bool.{Bool, true, false, _&&_, _||_, false≢true}
 use borrow.Author.Tests.{ne-eqb}
-use Rattle.lists.specs.Search.{anyOf, isAt}
 use Rattle.lists.proofs.TestLaws.{or-left, or-right}
 use Rattle.days.specs.Window.{upTo}
-use Rattle.records.specs.Records.{moveOut, massTransitionDrop}
 use Rattle.premise.specs.declared.Order.{Order}
-use Rattle.premise.specs.Orders.{permitPending, scheduled, cancelPending, hasStatus, hasKind, isSwitch, noRetailer}
-use Rattle.premise.specs.Evaluation.{isScheduledOrCancelPending, contends, switchOfDay, givesWay, switchOn, isDisplaced, isOvertaken, isDue}
+use Rattle.premise.specs.Orders.{permitPending, hasStatus, isSwitch}
+use Rattle.premise.specs.Evaluation.{isScheduledOrCancelPending, givesWay, isDisplaced, isOvertaken, isDue}
 use Rattle.premise_laws.specs.Changes.{mayChange}
 use Rattle.premise_laws.specs.Changes.{changesOrder}
-use Rattle.premise_laws.proofs.OtherPasses.{no-switch, displaced-other, not-overtaken}
+use Rattle.premise_laws.proofs.OtherPasses.{no-switch, displaced-other, not-overtaken, far-gives-no-way, far-displaced, far-due}
 
 -- ---- one of four tests, where the others fail
 only-first : (a b c d : Bool) → b ≡ false → c ≡ false → d ≡ false → a ≡ (a || b || c || d)
@@ -44,35 +41,14 @@ module _ (today last agreement : ℕ) (os : List Order) (i : ℕ) (o : Order) wh
   -- ---- the pass that may change it
   pub changes-due : isDue (upTo last) agreement o ≡ true → true ≡ changesOrder today last agreement os i o
   unfolding changesOrder
-  changes-due e = or-last (givesWay (upTo last) os i o || isDisplaced (upTo last) os o || isOvertaken today os o)
-      (isDue (upTo last) agreement o) e
+  changes-due e = or-last (givesWay (upTo last) os i o || isDisplaced (upTo last) os o || isOvertaken today os o) (isDue (upTo last) agreement o) e
 
   -- neither Scheduled nor Cancel Pending, or not in window: pass 3
-  changes-far : (isScheduledOrCancelPending o && upTo last (o .scheduled)) ≡ false
-      → isOvertaken today os o ≡ changesOrder today last agreement os i o
-  unfolding changesOrder givesWay contends isDisplaced isDue
+  changes-far : (isScheduledOrCancelPending o && upTo last (o .scheduled)) ≡ false → isOvertaken today os o ≡ changesOrder today last agreement os i o
+  unfolding changesOrder
   changes-far far =
-      let near = upTo last (o .scheduled) in
       only-third (givesWay (upTo last) os i o) (isDisplaced (upTo last) os o) (isOvertaken today os o) (isDue (upTo last) agreement o)
-      (one (isSwitch o) (isScheduledOrCancelPending o) near (not (isAt (switchOfDay (upTo last) os (o .scheduled)) i)) far)
-      (two (hasKind massTransitionDrop o) (hasStatus scheduled o) (hasStatus cancelPending o) near (anyOf (switchOn (o .scheduled)) os) far)
-      (four (hasStatus scheduled o) (hasStatus cancelPending o) (not (hasKind moveOut o) || not (eqb agreement noRetailer))
-      (eqb (o .told) 0) near far)
-    where
-      one : (k s n x : Bool) → (s && n) ≡ false → (k && s && n && x) ≡ false
-      one true s n x h = ap (λ (b : Bool). b && x) h
-      one false s n x h = refl
-
-      two : (k s c n x : Bool) → ((s || c) && n) ≡ false → (k && s && n && x) ≡ false
-      two k true c n x h = one k true n x h
-      two true false c n x h = refl
-      two false false c n x h = refl
-
-      four : (s c m t n : Bool) → ((s || c) && n) ≡ false → (s && m && t && n) ≡ false
-      four true c true true n h = h
-      four true c true false n h = refl
-      four true c false t n h = refl
-      four false c m t n h = refl
+      (far-gives-no-way (upTo last) os o far i) (far-displaced (upTo last) os o far) (far-due (upTo last) os o far agreement)
 
   pub changes-permit : o .status ≡ permitPending → isOvertaken today os o ≡ changesOrder today last agreement os i o
   changes-permit p = changes-far (rw p)

@@ -134,4 +134,4 @@ named-leaves calendar today f r w t premise h = go (named r (held f)) (place-in 
         file-after premise f (supplied f r o) (set (held f) i (onNamed calendar today f r o .order)) h
         (supplied-keeps calendar today f r o w t k premise h)
         (set-leaves (held f) i (onNamed calendar today f r o .order) os (named-order-leaves calendar today f r o w t k))
-    go Nothing b t = record { kept = h; open-of = λ retailer. omega arith }
+    go Nothing b t = record { kept = h; references = refl; open-of = λ retailer. omega arith }

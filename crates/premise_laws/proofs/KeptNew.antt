@@ -100,7 +100,7 @@ module _ (calendar : List ℕ) (today : ℕ) (f : File) (r : Record) (w : wellFo
         told = refl;
       }
 
-  reference-free : anyOf (hasReference (r .reference)) (held f) ≡ false
+  pub reference-free : anyOf (hasReference (r .reference)) (held f) ≡ false
   reference-free =
       none-found (hasReference (r .reference)) 0 (held f)
       (nothing-is (named r (held f))

@@ -169,14 +169,19 @@ kept-agreement premise f agreement h k =
       };
     }
 
--- a file afterwards: well kept, and no retailer has more open orders in it
+-- a file afterwards: well kept, with the references that it had, and no retailer has more open orders in it
 pub record LeavesFile (premise : ℕ) (before after : File) : Type 0 where
   pub kept : KeptFor premise after
+  pub references : references (held after) ≡ references (held before)
   pub open-of : (retailer : ℕ) → openOf retailer (held after) ≤ openOf retailer (held before)
 
 file-then : (premise : ℕ) (f next last : File) → LeavesFile premise f next → LeavesFile premise next last → LeavesFile premise f last
 file-then premise f next last a b =
-    record { kept = b .kept; open-of = λ retailer. omega (arith, a .open-of retailer, b .open-of retailer) }
+    record {
+      kept = b .kept;
+      references = b .references ∙ a .references;
+      open-of = λ retailer. omega (arith, a .open-of retailer, b .open-of retailer);
+    }
 
 -- with orders that have the references of those of a well-kept file; R and S may be others
 pub file-after : (premise : ℕ) (f g : File) (os : List Order) → KeptFor premise f → HeaderKept premise g → LeavesAll (held f) os
@@ -184,6 +189,7 @@ pub file-after : (premise : ℕ) (f g : File) (os : List Order) → KeptFor prem
 file-after premise f g os k h a = record {
   kept = kept-with premise g os h (omega (arith, same-many (held f) os a, held-few f (k .kept .tidy))) (a .kept)
       (distinct-same (held f) os (a .references) (k .kept .references));
+  references = rw (held-with g os) (a .references);
   open-of = λ retailer. rw (held-with g os) (a .open-of retailer);
 }
 

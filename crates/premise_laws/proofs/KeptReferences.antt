@@ -34,10 +34,10 @@ distinct-same os after e h = distinct-is after ∙ ap differ e ∙ sym (distinct
 
 -- the first order's reference stands nowhere after it, and the others differ
 module _ (o : Order) (os : List Order) (h : distinct (o ∷ os) ≡ true) where
-  first-alone : anyOf (hasReference (o .reference)) os ≡ false
+  pub first-alone : anyOf (hasReference (o .reference)) os ≡ false
   first-alone = not-true (anyOf (hasReference (o .reference)) os) (and-left (not (anyOf (hasReference (o .reference)) os)) (distinct os) h)
 
-  rest-distinct : distinct os ≡ true
+  pub rest-distinct : distinct os ≡ true
   rest-distinct = and-right (not (anyOf (hasReference (o .reference)) os)) (distinct os) h
 
 pub distinct-without : (q : Order → Bool) (os : List Order) → distinct os ≡ true → distinct (withoutFirst q os) ≡ true

@@ -87,7 +87,7 @@ module _ (calendar : List ℕ) (today : ℕ) (r : Record) (premise retailer : �
   -- kinds 3 to 9 and 11
   module _ (f : File) (n : NoRow calendar today (some f) r) (k : KeptFor premise f) where
     -- the order that is named is taken, by row 14
-    named-taken : is kindRetire r ≡ false → is kindDayMark r ≡ false → is kindAgreement r ≡ false → is kindNewOrder r ≡ false
+    pub named-taken : is kindRetire r ≡ false → is kindDayMark r ≡ false → is kindAgreement r ≡ false → is kindNewOrder r ≡ false
         → taken r (orderAt (held f) (named r (held f))) ≡ true
     named-taken t d a e =
         let o = orderAt (held f) (named r (held f)) in

@@ -5,6 +5,7 @@ pub mod ChangesOrder
 pub mod ClockChanges
 pub mod ClockExact
 pub mod DropOnSwitchDay
+pub mod Endings
 pub mod Few
 pub mod FileOrders
 pub mod KeptChanges
@@ -20,6 +21,8 @@ pub mod LossNotice
 pub mod MarkChanges
 pub mod Notices
 pub mod OrderDone
+pub mod OrdersFound
+pub mod OrdersRest
 pub mod OtherPasses
 pub mod PassTurns
 pub mod Passes

@@ -13,6 +13,7 @@ pub mod Kept
 pub mod Marks
 pub mod NothingFree
 pub mod OnHeld
+pub mod OnPremise
 pub mod Row6
 pub mod Rows
 pub mod RowsInOrder

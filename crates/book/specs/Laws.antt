@@ -1,7 +1,7 @@
 -- What the layers above rely on about the book, as statements; proofs/ proves each.
 use Prim.Native.Nat.{ℕ, _*_, _≤_, _<_}
 use mathlib.Core.Path.{_≡_}
-use mathlib.Core.Logic.{_↔_}
+use mathlib.Core.Logic.{_↔_, _⊎_}
 use mathlib.Core.List.{List, [], _∷_, _++_, map}
 use mathlib.Core.Option.{none, some}
 use mathlib.Core.Bool.{true, false}
@@ -16,14 +16,15 @@ use Rattle.premise.specs.declared.File.{File}
 use Rattle.premise.specs.declared.Answer.the-variants.{ShortBuffer, NotWellKept, MalformedRecord, NoSuchPremise}
 use Rattle.premise.specs.Steps.{is}
 use Rattle.premise.specs.Refusals.{number, needsPremise}
-use Rattle.premise.specs.OnePremise.{Given, givenOn}
+use Rattle.premise.specs.OnePremise.{Given, step, givenOn}
 use Rattle.premise.specs.WellKept.{FileKept}
 use Rattle.premise.specs.Laws.{rowNumbers}
 use Rattle.premise.specs.Promises.{StaysHeld}
 use Rattle.premise_laws.specs.Laws.{KeptFor}
 use Rattle.book.specs.declared.Book.{Book}
 use Rattle.book.specs.Book.{mostFiles, filesOf, bookOf, freshBook, risesFrom, bookKept, fileFor}
-use Rattle.book.specs.Calls.{noticeBytes, callRows, meetsRow6, markedFiles, markedNotices, onPremise, refusal, call, onDayMark}
+use Rattle.book.specs.Calls.{noticeBytes, callRows, meetsRow6, markedFiles, markedNotices, premiseState, Result, onPremise, refusal, call}
+use Rattle.book.specs.Calls.{onDayMark}
 
 -- ---- well kept
 -- at most 64 files, and the places after them unused: what the functions on a book's places ask of it
@@ -162,3 +163,23 @@ abbrev pub MarkTellsInOrder : Type 0
 MarkTellsInOrder =
     (calendar : List ℕ) (day : ℕ) (first others : List File)
     → markedNotices calendar day (first ++ others) ≡ markedNotices calendar day first ++ markedNotices calendar day others
+
+-- ---- a call as one premise sees it, whatever its bytes and its buffer
+-- its record is the premise's own or a day mark, and is accepted: T and the file or none become what the one-premise rules give
+pub record Heard (calendar : List ℕ) (b : Book) (bytes : List ℕ) (premise : ℕ) (x : Result) : Type 0 where
+  pub said : Record
+  pub says : reading bytes ≡ Says said
+  pub own : is kindDayMark said ≡ false → said .premise ≡ premise
+  pub answered : number (x .answer) ≡ 0
+  pub accepted : number (step calendar (premiseState b premise) said .answer) ≡ 0
+  pub state : premiseState (x .book) premise ≡ step calendar (premiseState b premise) said .state
+
+-- it is refused, or its record is another premise's: T and the file or none are what they were
+pub record Unheard (b : Book) (bytes : List ℕ) (premise : ℕ) (x : Result) : Type 0 where
+  pub why : number (x .answer) ≡ 0 → (r : Record) → reading bytes ≡ Says r → (is kindDayMark r ≡ false) × (r .premise ≡ premise → ⊥)
+  pub state : premiseState (x .book) premise ≡ premiseState b premise
+
+abbrev pub CallOnPremise : Type 0
+CallOnPremise =
+    (calendar : List ℕ) (b : Book) (bytes lent : List ℕ) (premise : ℕ) → bookKept b ≡ true
+    → Heard calendar b bytes premise (call calendar b bytes lent) ⊎ Unheard b bytes premise (call calendar b bytes lent)

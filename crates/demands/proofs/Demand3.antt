@@ -14,8 +14,8 @@ use Rattle.demands.specs.Demand3.{ShuffleProof, Demand3}
 use Rattle.book.proofs.Files.{rises-rising}
 use Rattle.book.proofs.SameFiles.{same-files}
 use Rattle.book.proofs.Kept.{book-kept-means, fresh-kept, holds-its-files}
+use Rattle.book.proofs.OnPremise.{state-of}
 use Rattle.demands.proofs.OnWay.{OnWay}
-use Rattle.demands.proofs.OneCall.{state-of}
 use Rattle.demands.proofs.Alone.{Alone, alone, last-on-way}
 
 -- ---- from a fresh book

@@ -20,7 +20,7 @@ use Rattle.premise.specs.Laws.{markedOr}
 use Rattle.premise.proofs.Answers.{only-marks-move, mark-step}
 use Rattle.premise_laws.proofs.Notices.{step-notices}
 use Rattle.book.specs.declared.Book.{Book}
-use Rattle.book.specs.Book.{filesOf, bookOf, fileFor, withFile}
+use Rattle.book.specs.Book.{filesOf, fileFor, withFile}
 use Rattle.book.specs.Calls.{premiseState, markedFiles, Result, refusal, onDayMark, asOne, markedBook}
 use Rattle.demands.specs.Demand3.{concerns, said, withPremise, ruledAnswers, ruledNotices}
 use Rattle.book.proofs.Files.{Rising, rises-rising}
@@ -28,15 +28,10 @@ use Rattle.book.proofs.SameFiles.{Numbered, with-found, with-others}
 use Rattle.book.proofs.Kept.{holds-its-files}
 use Rattle.book.proofs.Marks.{marked-state}
 use Rattle.book.proofs.Keeps.{numbers, found-kept, step-kept-file}
+use Rattle.book.proofs.OnPremise.{state-of}
 use Rattle.demands.proofs.Picks.{pick-own, pick-other, pick-marked}
 use Rattle.book.proofs.Acts.{acted, marked-accepted}
 use Rattle.demands.proofs.OnWay.{OnWay, Sound, SoundIn}
-
--- what a premise has in a book that is made of files
-pub state-of : (today premise : ℕ) (fs : List File)
-    → premiseState (bookOf today fs) premise ≡ record { today = today; file = fileFor premise fs }
-unfolding bookOf
-state-of today premise fs = ap (λ l. record { today = today; file = fileFor premise l }) (holds-its-files today fs)
 
 -- a call that concerns the premise gives it what the one-premise rules give
 record AsGiven (premise : ℕ) (x : Result) (g : Given) : Type 0 where

@@ -1,7 +1,7 @@
 -- The order with a reference among a file's orders: what finds it after a pass, after one is left out, put behind or replaced. Assumes
 -- nothing.
 use Prim.Native.Nat.{ℕ, zero, suc, _+_}
-use mathlib.Core.Path.{_≡_, refl, sym, ap, ap₂, _∙_}
+use mathlib.Core.Path.{_≡_, refl, sym, ap, _∙_}
 use mathlib.Core.Logic.{_⊎_, inl, inr}
 use mathlib.Core.List.{List, [], _∷_, _++_}
 use mathlib.Core.Option.{Option, none, some}
@@ -10,7 +10,7 @@ use native.Mathlib.Omega.{arith}
 use lib.Dec.{eqb}
 use lib.ListN.{getD, set}
 use borrow.Author.Tests.{eqb-true, ne-eqb}
-use Rattle.lists.specs.declared.Found.the-variants.{At, Nothing}
+use Rattle.lists.specs.declared.Found.the-variants.{At}
 use Rattle.lists.specs.Search.{anyOf, placeFrom, withoutFirst, Each}
 use Rattle.lists.proofs.TestLaws.{or-left, or-right}
 use Rattle.lists.proofs.SearchLaws.{any-map}
@@ -21,7 +21,6 @@ use Rattle.premise.specs.WellKept.{distinct}
 use Rattle.premise_laws.specs.Endings.{oldestWith, orderIn, isThere}
 use Rattle.premise_laws.proofs.KeptOrders.{OrderKept}
 use Rattle.premise_laws.proofs.KeptChanges.{Leaves}
-use Rattle.premise_laws.proofs.KeptPasses.{pass-leaves}
 use Rattle.premise_laws.proofs.KeptReferences.{hasReference, references, first-alone, rest-distinct}
 
 -- ---- there or not

@@ -49,7 +49,7 @@ closed-rests near o c =
     }
 
 -- a status is one alone
-other-status : (one other : ℕ) (o : Order) → eqb one other ≡ false → hasStatus one o ≡ true → hasStatus other o ≡ false
+pub other-status : (one other : ℕ) (o : Order) → eqb one other ≡ false → hasStatus one o ≡ true → hasStatus other o ≡ false
 other-status one other o n e = ap (λ (s : ℕ). eqb s other) (eqb-true (o .status) one e) ∙ n
 
 module _ (near : ℕ → Bool) (missing : near noDay ≡ false) where

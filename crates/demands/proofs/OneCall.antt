@@ -11,7 +11,6 @@ use Rattle.records.specs.declared.Reading.{Reading}
 use Rattle.records.specs.declared.Reading.the-variants.{Malformed, Says}
 use Rattle.records.specs.Records.{kindDayMark}
 use Rattle.records.specs.Notices.{encode}
-use Rattle.premise.specs.declared.File.{File}
 use Rattle.premise.specs.declared.Answer.the-variants.{NotNextDay}
 use Rattle.premise.specs.Steps.{is}
 use Rattle.premise.specs.Refusals.{number}
@@ -25,7 +24,6 @@ use Rattle.book.specs.Calls.{premiseState, markedFiles, Result, refusal, onDayM
 use Rattle.demands.specs.Demand3.{concerns, said, withPremise, ruledAnswers, ruledNotices}
 use Rattle.book.proofs.Files.{Rising, rises-rising}
 use Rattle.book.proofs.SameFiles.{Numbered, with-found, with-others}
-use Rattle.book.proofs.Kept.{holds-its-files}
 use Rattle.book.proofs.Marks.{marked-state}
 use Rattle.book.proofs.Keeps.{numbers, found-kept, step-kept-file}
 use Rattle.book.proofs.OnPremise.{state-of}

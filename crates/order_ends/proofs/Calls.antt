@@ -5,20 +5,27 @@ use mathlib.Core.Logic.{_⊎_, inl, inr}
 use mathlib.Core.List.{List, [], _∷_, _++_}
 use mathlib.Core.Option.{Option, none, some}
 use mathlib.Core.Bool.{Bool, true, false, cond, false≢true}
+use native.Mathlib.Omega.{arith}
 use lib.Dec.{eqb}
 use borrow.Author.Tests.{eqb-true}
 use Rattle.records.specs.declared.Record.{Record}
 use Rattle.records.specs.declared.Reading.the-variants.{Says}
 use Rattle.records.specs.Records.{reading, kindDayMark}
 use Rattle.records.proofs.Readings.{says}
+use Rattle.premise.specs.declared.Order.{Order}
 use Rattle.premise.specs.declared.File.{File}
 use Rattle.premise.specs.declared.Answer.the-variants.{NotNextDay}
+use Rattle.premise.specs.Orders.{held}
 use Rattle.premise.specs.Steps.{is}
 use Rattle.premise.specs.Refusals.{number, ordersOf}
 use Rattle.premise.specs.OnePremise.{State, Given, refused, step}
 use Rattle.premise.specs.Laws.{markedOr}
 use Rattle.premise.proofs.Answers.{mark-step, only-marks-move}
+use Rattle.premise_laws.specs.Laws.{Held, KeptFor}
 use Rattle.premise_laws.specs.Endings.{orderIn, Becomes}
+use Rattle.premise_laws.proofs.KeptOrders.{OrderKept, orders-facts}
+use Rattle.premise_laws.proofs.KeptReferences.{hasReference}
+use Rattle.premise_laws.proofs.OrdersFound.{found-each}
 use Rattle.premise_laws.proofs.Endings.{step-on-order}
 use Rattle.book.specs.declared.Book.{Book}
 use Rattle.book.specs.Book.{filesOf, bookKept, fileFor}
@@ -44,8 +51,9 @@ pub record Done (calendar : List ℕ) (b : Book) (premise reference : ℕ) (m : 
   pub next : is kindDayMark said ≡ true → said .day ≡ b .today + 1
   pub today : m .reply .book .today ≡ cond (is kindDayMark said) (b .today + 1) (b .today)
 
--- a call that leaves the premise and T
+-- a call that leaves the premise and T; it is no accepted day mark
 pub record Left (b : Book) (premise reference : ℕ) (m : Made) : Type 0 where
+  pub no-mark : number (m .reply .answer) ≡ 0 → (r : Record) → reading (m .bytes) ≡ Says r → is kindDayMark r ≡ false
   pub order : orderFor premise reference (m .reply .book) ≡ orderFor premise reference b
   pub today : m .reply .book .today ≡ b .today
 
@@ -109,6 +117,7 @@ module _ (calendar : List ℕ) (b : Book) (m : Made) (k : bookKept b ≡ true)
       let state : premiseState (m .reply .book) premise ≡ premiseState b premise =
       ap (λ (c : Book). premiseState c premise) (p .book) ∙ h .state in
       record {
+        no-mark = λ z r e. h .why (sym (ap number (p .answer)) ∙ z) r e .0;
         order = ap (λ (t : State). orderIn reference (ordersOf (t .file))) state;
         today = ap (λ (t : State). t .today) state;
       }
@@ -121,6 +130,15 @@ module _ (calendar : List ℕ) (b : Book) (m : Made) (k : bookKept b ≡ true)
           → Done calendar b premise reference m ⊎ Left b premise reference m
       go (inl h) = inl (heard-done h)
       go (inr h) = inr (unheard-left h)
+
+-- an order of a well-kept book is kept
+pub order-kept : (b : Book) → bookKept b ≡ true → (premise reference : ℕ) (o : Order) → orderFor premise reference b ≡ some o → OrderKept o
+unfolding orderFor
+order-kept b k premise reference o e = go (fileFor premise (filesOf b)) (found-kept b (book-kept-means b .0 k) premise) e
+  where
+    go : (file : Option File) → Held (KeptFor premise) file → orderIn reference (ordersOf file) ≡ some o → OrderKept o
+    go none h q = absurd (let z : _≡_ {A = ℕ} 0 1 = cc in omega arith)
+    go (some f) h q = found-each (hasReference reference) OrderKept (held f) o (orders-facts (held f) (h .kept .orders)) q
 
 -- ---- lists of calls
 pub last-append : (b : Book) (xs ys : List Made) → lastBook b (xs ++ ys) ≡ lastBook (lastBook b xs) ys

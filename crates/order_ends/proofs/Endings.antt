@@ -9,7 +9,6 @@ use mathlib.Core.Bool.{Bool, true, false, not, _&&_, false≢true}
 use native.Mathlib.Omega.{arith}
 use lib.Dec.{eqb, leb}
 use borrow.Author.Tests.{eqb-true}
-use Rattle.lists.specs.Search.{Each}
 use Rattle.lists.proofs.SearchLaws.{each-append}
 use Rattle.days.specs.Days.{lastDay}
 use Rattle.records.specs.declared.Record.{Record}
@@ -29,7 +28,7 @@ use Rattle.book.proofs.Kept.{fresh-kept}
 use Rattle.book.proofs.OnPremise.{state-of}
 use Rattle.demands.specs.Demand3.{Made, Played, lastBook}
 use Rattle.order_ends.specs.Endings.{orderFor, ThereAfterEach, ClosedStays, Gone, GoneByItsCall, OpenStaysThere, NeverGone}
-use Rattle.order_ends.specs.Endings.{ThereUntilGone, Came, EachCame, OneEnd, ComesToOneEnd, Endings}
+use Rattle.order_ends.specs.Endings.{ThereUntilGone, Came, EachCame, ComesToOneEnd, Endings}
 use Rattle.order_ends.proofs.Calls.{Done, Left, one-call, last-append, call-kept, last-kept, played-first, played-second}
 
 -- ---- by what becomes of an order

@@ -1,7 +1,7 @@
 -- The order with a reference among a file's orders: what finds it after a pass, after one is left out, put behind or replaced. Assumes
 -- nothing.
 use Prim.Native.Nat.{ℕ, zero, suc, _+_}
-use mathlib.Core.Path.{_≡_, refl, sym, ap, _∙_}
+use mathlib.Core.Path.{_≡_, refl, sym, ap, subst, _∙_}
 use mathlib.Core.Logic.{_⊎_, inl, inr}
 use mathlib.Core.List.{List, [], _∷_, _++_}
 use mathlib.Core.Option.{Option, none, some}
@@ -46,6 +46,15 @@ module _ (p : Order → Bool) where
           → (oldestWith p os ≡ some o → anyOf other os ≡ false → other o ≡ false) → other o ≡ false
       go true k ih = let z : x ≡ o = cc in ap other (sym z) ∙ or-left (other x) (anyOf other os) h
       go false k ih = ih k (or-right (other x) (anyOf other os) h)
+
+  -- what holds of each holds of the one found
+  pub found-each : (P : Order → Type 0) (os : List Order) (o : Order) → Each P os → oldestWith p os ≡ some o → P o
+  found-each P [] o u e = absurd (let z : _≡_ {A = ℕ} 0 1 = cc in omega arith)
+  found-each P (x ∷ os) o u e = go (p x) e (found-each P os o (u .1))
+    where
+      go : (b : Bool) → cond b (some x) (oldestWith p os) ≡ some o → (oldestWith p os ≡ some o → P o) → P o
+      go true k ih = subst P (let same : x ≡ o = cc in same) (u .0)
+      go false k ih = ih k
 
   pub there-any : (os : List Order) → isThere (oldestWith p os) ≡ anyOf p os
   there-any [] = refl

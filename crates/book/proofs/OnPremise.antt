@@ -84,7 +84,8 @@ module _ (calendar : List ℕ) (b : Book) (bytes lent : List ℕ) (premise : ℕ
             ≡ cond next (markedOr calendar (r .day) (fileFor other (filesOf b))) (refused NotNextDay (premiseState b other))
         marks other next q =
             mark-step calendar (premiseState b other) r t
-            ∙ ap (λ (c : Bool). cond c (markedOr calendar (r .day) (fileFor other (filesOf b))) (refused NotNextDay (premiseState b other))) q
+            ∙ ap (λ (c : Bool). cond c (markedOr calendar (r .day) (fileFor other (filesOf b)))
+            (refused NotNextDay (premiseState b other))) q
 
         go : (next : Bool) → eqb (r .day) (b .today + 1) ≡ next
             → Heard calendar b bytes premise (cond next (markedBook calendar b (r .day)) (refusal NotNextDay b))
@@ -128,7 +129,9 @@ module _ (calendar : List ℕ) (b : Book) (bytes lent : List ℕ) (premise : ℕ
           let given : Given = step calendar (premiseState b (r .premise)) r in
           let found = with-others premise (r .premise) (given .state .file) (filesOf b) n after in
           record {
-            why = λ z s q. let same : r ≡ s = cc in (ap (is kindDayMark) (sym same) ∙ t, (λ u. n (ap (λ (x : Record). x .premise) same ∙ u)));
+            why = λ z s q.
+                let same : r ≡ s = cc in
+                (ap (is kindDayMark) (sym same) ∙ t, (λ u. n (ap (λ (x : Record). x .premise) same ∙ u)));
             state = state-of (b .today) premise (withFile (r .premise) (given .state .file) (filesOf b))
                 ∙ (λ i. record { today = b .today; file = found i });
           }

@@ -23,8 +23,8 @@ use Rattle.premise.specs.Promises.{StaysHeld}
 use Rattle.premise_laws.specs.Laws.{KeptFor}
 use Rattle.book.specs.declared.Book.{Book}
 use Rattle.book.specs.Book.{mostFiles, filesOf, bookOf, freshBook, risesFrom, bookKept, fileFor}
-use Rattle.book.specs.Calls.{noticeBytes, callRows, meetsRow6, markedFiles, markedNotices, premiseState, Result, onPremise, refusal, call}
-use Rattle.book.specs.Calls.{onDayMark}
+use Rattle.book.specs.Calls.{noticeBytes, callRows, meetsRow6, markedFiles, markedNotices, premiseState, Result, onPremise, refusal}
+use Rattle.book.specs.Calls.{call, onDayMark}
 
 -- ---- well kept
 -- at most 64 files, and the places after them unused: what the functions on a book's places ask of it

@@ -1,6 +1,7 @@
--- Lists of calls that are played by the definition of the call keep the record call's promise; what a test over a list says. Assumes nothing.
+-- Lists of calls that are played by the definition of the call keep the record call's promise; what a test over a list says. Assumes
+-- nothing.
 use Prim.Native.Nat.{ℕ}
-use mathlib.Core.Path.{_≡_, refl, sym, ap, _∙_}
+use mathlib.Core.Path.{_≡_, refl}
 use mathlib.Core.List.{List, [], _∷_, _++_}
 use mathlib.Core.Bool.{Bool, true, _&&_}
 use lib.Dec.{eqb}
@@ -25,7 +26,8 @@ module _ (calendar : List ℕ) where
     promised (call calendar b (f .bytes) (f .lent) .book) fs,
   )
 
-  pub played-both : (b : Book) (xs ys : List Made) → Played calendar b xs → Played calendar (lastBook b xs) ys → Played calendar b (xs ++ ys)
+  pub played-both : (b : Book) (xs ys : List Made) → Played calendar b xs → Played calendar (lastBook b xs) ys
+      → Played calendar b (xs ++ ys)
   played-both b [] ys p q = q
   played-both b (m ∷ xs) ys p q = (p .0, played-both (m .reply .book) xs ys (p .1) q)
 

@@ -91,8 +91,8 @@ module _ (calendar : List ℕ) (premise reference : ℕ) where
   found none t = absurd (false≢true t)
   found (some o) t = (o, refl)
 
-  pub stays-from : (b : Book) (ms : List Made) → bookKept b ≡ true → Played calendar b ms → (o : Order) → orderFor premise reference b ≡ some o
-      → isClosed o ≡ true → ThereAfterEach premise reference ms → orderFor premise reference (lastBook b ms) ≡ some o
+  pub stays-from : (b : Book) (ms : List Made) → bookKept b ≡ true → Played calendar b ms
+      → (o : Order) → orderFor premise reference b ≡ some o → isClosed o ≡ true → ThereAfterEach premise reference ms → orderFor premise reference (lastBook b ms) ≡ some o
   stays-from b [] k p o e c t = e
   stays-from b (m ∷ ms) k p o e c t =
       stays-from (m .reply .book) ms (call-kept calendar b m k (p .0)) (p .1) o (closed-stays b m k (p .0) o e c (t .0)) c (t .1)
@@ -141,7 +141,8 @@ module _ (calendar : List ℕ) (premise reference : ℕ) where
         b : Book
         b = lastBook (freshBook start) xs
 
-        comes : (r : Record) (os : List Order) (before after : Option Order) → Becomes calendar (b .today) premise r reference os before after
+        comes : (r : Record) (os : List Order) (before after : Option Order)
+            → Becomes calendar (b .today) premise r reference os before after
             → before ≡ none → after ≡ some o → Comes calendar (b .today) r reference o
         comes r os none none s f q = absurd (let z : _≡_ {A = ℕ} 0 1 = cc in omega arith)
         comes r os none (some x) s f q =
@@ -247,7 +248,8 @@ comes-to-one-end calendar start first second p premise reference o after e n q =
         → hasStatus another after ≡ false
     other one another c d s =
         let there = there-until-gone calendar start first second p premise reference (ap isThere e) n in
-        let same = inside after o (sym q ∙ closed-stays-all calendar start first second p premise reference o e (closed-by one o c s) there) in
+        let stays = closed-stays-all calendar start first second p premise reference o e (closed-by one o c s) there in
+        let same = inside after o (sym q ∙ stays) in
         ap (hasStatus another) same ∙ other-status one another o d s
 
 pub endings : Endings

@@ -2,7 +2,6 @@
 use mathlib.Core.Path.{_≡_, refl}
 use mathlib.Core.List.{[], _++_}
 use mathlib.Core.Option.{some}
-use mathlib.Core.Bool.{Bool, true}
 use Rattle.lists.proofs.SearchLaws.{each-of-all}
 use Rattle.days.specs.Days.{kindOfDay, isBusinessDay, switchDate}
 use Rattle.days.specs.Window.{businessDays, inWindow}
@@ -43,6 +42,7 @@ pub stays : orderFor 7 1 (lastBook (freshBook 10) (completed ++ kept)) ≡ some 
 unfolding completed kept done
 stays =
     endings .stays [] 10 completed kept
-    (played-both [] (freshBook 10) completed kept (promised [] (freshBook 10) first) (promised [] (lastBook (freshBook 10) completed) second))
+    (played-both [] (freshBook 10) completed kept (promised [] (freshBook 10) first)
+    (promised [] (lastBook (freshBook 10) completed) second))
     7 1 done (comes .complete) refl
     (each-of-all (λ (m : Made). isThere (orderFor 7 1 (m .reply .book))) kept (comes .there))

@@ -8,7 +8,8 @@ use lib.Dec.{leb, ltb}
 use borrow.Author.Tests.{eqb-true, le-leb, lt-leb, lt-ltb, le-ltb, ltb-true, ltb-false}
 use Rattle.days.specs.Days.{lastDay, noDay, isBusinessDay}
 use Rattle.premise.specs.declared.Order.{Order}
-use Rattle.premise.specs.Orders.{inReview, permitPending, cancelPending, hasStatus, isClosed, withStatus, withWaited, withPending, asCancelled}
+use Rattle.premise.specs.Orders.{inReview, permitPending, cancelPending, hasStatus, isClosed, withStatus, withWaited, withPending}
+use Rattle.premise.specs.Orders.{asCancelled}
 use Rattle.premise.specs.Passes.{same, cancelling}
 use Rattle.premise.specs.Clock.{mostPending, grown, reviewEnds, toCancelPending, reviewed, permitAwaited, cancelAwaited, ticked}
 use Rattle.premise_laws.specs.Endings.{Waits}
@@ -27,7 +28,8 @@ module _ (business : Bool) (today premise : ℕ) (o : Order) where
       ≡ cond ends (withPending 0 (withStatus cancelPending (withWaited waited o))) (withWaited waited o)
   unfolding ticked reviewed
   in-review waited ends e g r =
-      ap (λ (b : Bool). cond b (reviewed business today premise o) (cond (hasStatus permitPending o) (permitAwaited business today premise o)
+      ap (λ (b : Bool). cond b (reviewed business today premise o)
+      (cond (hasStatus permitPending o) (permitAwaited business today premise o)
       (cond (hasStatus cancelPending o) (cancelAwaited premise o) (same o))) .order) e
       ∙ ap (λ (n : ℕ). cond (reviewEnds n (o .requested) today) (toCancelPending premise n o) (same (withWaited n o)) .order) g
       ∙ ap (λ (b : Bool). cond b (toCancelPending premise waited o) (same (withWaited waited o)) .order) r ∙ by ends
@@ -105,7 +107,8 @@ module _ (calendar : List ℕ) (today : ℕ) (o : Order) where
 
       counted-tick : (ends : Bool) → turnsOn calendar today (o .waited .0) (o .requested) (day + 1) ≡ ends
           → tick (countedOn calendar today o day)
-          ≡ cond ends (withPending 0 (withStatus cancelPending (countedOn calendar today o (day + 1)))) (countedOn calendar today o (day + 1))
+          ≡ cond ends (withPending 0 (withStatus cancelPending (countedOn calendar today o (day + 1))))
+          (countedOn calendar today o (day + 1))
       counted-tick ends e =
           in-review (isBusinessDay calendar (day + 1)) (day + 1) premise (countedOn calendar today o day)
           (countedTo calendar today (o .waited .0) (day + 1)) ends review (counted-next calendar today (o .waited .0) day after) e
@@ -114,7 +117,8 @@ module _ (calendar : List ℕ) (today : ℕ) (o : Order) where
           → tick (onDay calendar today o day) ≡ cond ends (cancelledOf calendar today o) (pendingFor calendar today o (day - turning + 1))
       pending-tick h ends e =
           ap tick (on-pending day h before)
-          ∙ pending (isBusinessDay calendar (day + 1)) (day + 1) premise (withPending (day - turning) (countedOn calendar today o turning)) ends e
+          ∙ pending (isBusinessDay calendar (day + 1)) (day + 1) premise (withPending (day - turning) (countedOn calendar today o turning))
+          ends e
 
       next-counted : day + 1 < turning → tick (onDay calendar today o day) ≡ onDay calendar today o (day + 1)
       next-counted h =

@@ -73,7 +73,8 @@ turning-day-is calendar today waited requested =
     counted day = countedTo calendar today waited day
 
     go : {turning : ℕ}
-        → Finds (turnsOn calendar today waited requested) (suc today) turning ⊎ Misses (turnsOn calendar today waited requested) (suc today) turning
+        → Finds (turnsOn calendar today waited requested) (suc today) turning
+        ⊎ Misses (turnsOn calendar today waited requested) (suc today) turning
         → TurnsFirst calendar today waited requested turning ⊎ NeverTurns calendar today waited requested turning
     go {turning} (inl f) = inl
         (record {
@@ -109,7 +110,8 @@ business-last calendar from to h =
 module _ (calendar : List ℕ) (today waited : ℕ) where
   -- by the clock of the next day
   pub counted-next : (day : ℕ) → today ≤ day
-      → cond (isBusinessDay calendar (day + 1)) (min (countedTo calendar today waited day + 1) mostWaited) (countedTo calendar today waited day)
+      → cond (isBusinessDay calendar (day + 1)) (min (countedTo calendar today waited day + 1) mostWaited)
+      (countedTo calendar today waited day)
       ≡ countedTo calendar today waited (day + 1)
   counted-next day h =
       go (isBusinessDay calendar (day + 1)) (businessDays calendar (today + 1) (day + 1)) (businessDays calendar (today + 1) (day + 1 + 1))

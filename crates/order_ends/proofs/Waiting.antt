@@ -78,7 +78,8 @@ waits-open : (o : Order) → Waits o → isOpen o ≡ true
 waits-open o q = or-either (hasStatus inReview o) (hasStatus cancelPending o) (q .status) (status-open inReview o refl)
     (status-open cancelPending o refl)
 
-waits-becomes : (calendar : List ℕ) (today premise : ℕ) (r : Record) (reference : ℕ) (os : List Order) (o : Order) (before after : Option Order)
+waits-becomes : (calendar : List ℕ) (today premise : ℕ) (r : Record) (reference : ℕ) (os : List Order) (o : Order)
+    (before after : Option Order)
     → Becomes calendar today premise r reference os before after → before ≡ some o → Waits o
     → (is kindDayMark r ≡ false → r .reference ≡ reference → ⊥)
     → after ≡ some (cond (is kindDayMark r) (ticked (isBusinessDay calendar (r .day)) (r .day) premise o .order) o)
@@ -115,13 +116,15 @@ module _ (calendar : List ℕ) (premise reference today : ℕ) (o : Order) (revi
         done : (d : Done calendar b premise reference m) (mark : Bool) → is kindDayMark (d .said) ≡ mark
             → m .reply .book .today ≡ cond mark (b .today + 1) (b .today)
             → orderFor premise reference (m .reply .book)
-            ≡ some (cond mark (ticked (isBusinessDay calendar (d .said .day)) (d .said .day) premise (onDay calendar today o (b .today)) .order)
+            ≡ some (cond mark
+            (ticked (isBusinessDay calendar (d .said .day)) (d .said .day) premise (onDay calendar today o (b .today)) .order)
             (onDay calendar today o (b .today)))
             → AsOnDay (m .reply .book)
         done d true t moved q =
             let last = book-kept-means (m .reply .book) .0 (call-kept calendar b m k p) .today in
             q
-            ∙ ap (λ (day : ℕ). some (ticked (isBusinessDay calendar day) day premise (onDay calendar today o (b .today)) .order)) (d .next t)
+            ∙ ap (λ (day : ℕ). some (ticked (isBusinessDay calendar day) day premise (onDay calendar today o (b .today)) .order))
+            (d .next t)
             ∙ ap some (on-next calendar today o review kept (b .today) after (omega arith) h premise)
             ∙ ap (λ (day : ℕ). some (onDay calendar today o day)) (sym moved)
         done d false t moved q = q ∙ ap (λ (day : ℕ). some (onDay calendar today o day)) (sym moved)
@@ -167,8 +170,10 @@ module _ (calendar : List ℕ) (premise reference today : ℕ) (o : Order) (revi
   followed-early : (b : Book) (ms : List Made) → bookKept b ≡ true → Played calendar b ms → lastBook b ms .today < turning + 7
       → Followed b ms
   followed-early b [] k p h = tt
-  followed-early b (m ∷ ms) k p h =
-      (inl (omega (arith, h, calls-move calendar b (m ∷ ms) k p)), followed-early (m .reply .book) ms (call-kept calendar b m k (p .0)) (p .1) h)
+  followed-early b (m ∷ ms) k p h = (
+    inl (omega (arith, h, calls-move calendar b (m ∷ ms) k p)),
+    followed-early (m .reply .book) ms (call-kept calendar b m k (p .0)) (p .1) h,
+  )
 
   followed-there : (b : Book) (ms : List Made) → ThereAfterEach premise reference ms → Followed b ms
   followed-there b [] t = tt

@@ -2,7 +2,8 @@
 use mathlib.Core.Path.{_≡_, refl}
 use mathlib.Core.List.{[], _∷_, _++_}
 use mathlib.Core.Option.{some}
-use mathlib.Core.Bool.{true}
+use lib.Dec.{lit≤}
+use Rattle.lists.proofs.SearchLaws.{each-of-all}
 use Rattle.days.specs.Days.{kindOfDay, isBusinessDay, switchDate}
 use Rattle.days.specs.Window.{businessDays, inWindow}
 use Rattle.records.specs.Layout.{fieldOf}
@@ -20,7 +21,8 @@ use Rattle.premise.specs.Refusals.{number, premiseRows, orderRows}
 use Rattle.premise.specs.OnePremise.{markedWith, steppedWith, stepWith}
 use Rattle.book.specs.Book.{bookOf, bookKept, freshBook, fileFor, putIn, takenOut}
 use Rattle.book.specs.Calls.{callRowsWith, callWith}
-use Rattle.demands.specs.Demand3.{lastBook}
+use Rattle.premise_laws.specs.Endings.{isThere}
+use Rattle.demands.specs.Demand3.{Made, lastBook}
 use Rattle.order_ends.specs.Endings.{orderFor}
 use Rattle.order_ends.specs.TurningDay.{turningDay}
 use Rattle.order_ends.specs.Waiting.{cancelledOf, Hangs}
@@ -38,11 +40,20 @@ unfolding reviewed permitAwaited cancelAwaited ticked contends switchOfDay gives
     businessDays inWindow bookOf bookKept fileFor putIn takenOut callRowsWith callWith orderFor turningDay enough short made plays record24
     markOf everyDay arrival hanging arrived hung waiting week twoAWeek longWait
 comes = record {
-  f = record { turning = refl; arrives = refl; answered = refl; statuses = refl; pending = refl; unnamed = refl };
+  f = record {
+    turning = refl;
+    arrives = refl;
+    answered = refl;
+    statuses = refl;
+    pending = refl;
+    unnamed = refl;
+    there = refl;
+    over = lit≤ tt;
+  };
   twenty = record { turning = refl; statuses = refl };
 }
 
--- of set piece f the theorem says what comes of the order, and so that it is Cancelled at the end
+-- of set piece f the theorem says what comes of the order, and that it is Cancelled at the end
 pub hangs : Hangs everyDay 7 1 waiting (lastBook (freshBook 50) arrived .today) hung (lastBook (freshBook 50) (arrived ++ hung))
 unfolding arrived hung waiting
 hangs =
@@ -50,3 +61,7 @@ hangs =
     (played-both everyDay (freshBook 50) arrived hung (promised everyDay (freshBook 50) arrival)
     (promised everyDay (lastBook (freshBook 50) arrived) (hanging ++ (enough (markOf 59) ∷ []))))
     7 1 waiting (comes .f .arrives) refl (all-unnamed 7 1 hung (comes .f .unnamed))
+
+pub cancelled : orderFor 7 1 (lastBook (freshBook 50) (arrived ++ hung))
+    ≡ some (cancelledOf everyDay (lastBook (freshBook 50) arrived .today) waiting)
+cancelled = hangs .stays (comes .f .over) (each-of-all (λ (m : Made). isThere (orderFor 7 1 (m .reply .book))) hung (comes .f .there))

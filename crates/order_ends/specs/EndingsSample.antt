@@ -1,6 +1,6 @@
 -- A list of calls that is computed, of which the first theorem speaks, and in which "until" is seen to be needed: reference 1 is Complete,
--- stays so, is dropped, is used anew and becomes Unexecutable; at another premise it is Unexecutable and goes with its premise. Strewn in: a
--- refused record that names it, and a retire with a short buffer.
+-- stays so, is dropped, is used anew and becomes Unexecutable; at another premise it is Unexecutable and goes with its premise. Strewn in:
+-- a refused record that names it, and a retire with a short buffer.
 use mathlib.Core.Path.{_≡_}
 use mathlib.Core.List.{List, [], _∷_}
 use mathlib.Core.Option.{some}

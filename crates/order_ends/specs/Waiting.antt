@@ -1,6 +1,6 @@
--- Document 02, change 13: "And an accepted order in In Review that no later record names turns Cancel Pending at the first later accepted mark
--- at which N, once counted on, is at least 20, or is at least 3 with T at least RD, and Cancelled at the seventh accepted mark after that
--- one, if the tape goes so far." About what calls returned, for every book on the way; proofs/Waiting.antt proves it.
+-- Document 02, change 13: "And an accepted order in In Review that no later record names turns Cancel Pending at the first later accepted
+-- mark at which N, once counted on, is at least 20, or is at least 3 with T at least RD, and Cancelled at the seventh accepted mark after
+-- that one, if the tape goes so far." About what calls returned, for every book on the way; proofs/Waiting.antt proves it.
 use Prim.Native.Nat.{ℕ, _+_, _-_, _≤_, _<_}
 use mathlib.Core.Path.{_≡_}
 use mathlib.Core.List.{List, [], _∷_, _++_}

@@ -1,7 +1,7 @@
 -- Lists of calls that are computed, of which the second theorem speaks: document 01's set piece f, and an order that waits for 20 business
 -- days. Strewn between the marks of the first: refused records that name the order, another premise's records with its reference, and a
 -- call with a short buffer.
-use Prim.Native.Nat.{ℕ, zero, suc}
+use Prim.Native.Nat.{ℕ, zero, suc, _+_, _≤_}
 use mathlib.Core.Path.{_≡_}
 use mathlib.Core.List.{List, [], _∷_, _++_}
 use mathlib.Core.Option.{some}
@@ -9,10 +9,12 @@ use mathlib.Core.Bool.{true}
 use lib.ListN.{replicate}
 use Rattle.lists.specs.Search.{allOf}
 use Rattle.premise.specs.declared.Order.{Order}
+use Rattle.premise_laws.specs.Endings.{isThere}
 use Rattle.book.specs.Book.{freshBook}
 use Rattle.demands.specs.Demand3.{Made, lastBook}
 use Rattle.order_ends.specs.Endings.{orderFor}
 use Rattle.order_ends.specs.TurningDay.{turningDay}
+use Rattle.order_ends.specs.Waiting.{turningOf}
 use Rattle.order_ends.specs.Plays.{Feed, enough, short, plays, record24, answersOf, statuses, pendings, isUnnamed}
 
 unfoldable pub markOf : ℕ → List ℕ
@@ -26,8 +28,8 @@ everyDay = replicate 70 0
 unfoldable pub arrival : List Feed
 arrival = enough (record24 1 0 0 0 7 101) ∷ enough (record24 3 1 50 1 7 202) ∷ []
 
--- To the mark of 58. A meter read of the order gets 14, another retailer's cancel 13, a new order with its reference 8, a permit 14. Premise 5
--- is created and gets an order with the same reference. The mark of 53 gets 1 with a short buffer, and 0 with the next call.
+-- To the mark of 58. A meter read of the order gets 14, another retailer's cancel 13, a new order with its reference 8, a permit 14.
+-- Premise 5 is created and gets an order with the same reference. The mark of 53 gets 1 with a short buffer, and 0 with the next call.
 unfoldable pub hanging : List Feed
 hanging =
     enough (record24 7 0 50 1 7 0)
@@ -77,6 +79,8 @@ pub record PieceF : Type 0 where
   pub statuses : statuses 7 1 hung ≡ 1 ∷ 1 ∷ 1 ∷ 1 ∷ 4 ∷ 4 ∷ 4 ∷ 4 ∷ 4 ∷ 4 ∷ 4 ∷ 4 ∷ 4 ∷ 4 ∷ 4 ∷ 6 ∷ []
   pub pending : pendings 7 1 hung ≡ 0 ∷ 0 ∷ 0 ∷ 0 ∷ 0 ∷ 0 ∷ 0 ∷ 0 ∷ 1 ∷ 1 ∷ 2 ∷ 3 ∷ 4 ∷ 5 ∷ 6 ∷ 0 ∷ []
   pub unnamed : allOf (isUnnamed 7 1) hung ≡ true
+  pub there : allOf (λ (m : Made). isThere (orderFor 7 1 (m .reply .book))) hung ≡ true
+  pub over : turningOf everyDay (lastBook (freshBook 50) arrived .today) waiting + 7 ≤ lastBook (freshBook 50) (arrived ++ hung) .today
 
 -- ---- 20 business days: two a week, and a drop of day 0 whose RD is far off
 unfoldable pub week : List ℕ

@@ -98,7 +98,8 @@ module _ (calendar : List ℕ) (today : ℕ) (r : Record) (premise reference : �
         let business : Bool = isBusinessDay calendar (r .day) in
         let after = orderIn reference (held (marked calendar (r .day) f .file)) in
         follows calendar today premise r reference (held f) (orderIn reference (held f)) after (record {
-          there = there-same reference (held f) (held (marked calendar (r .day) f .file)) (mark-leaves calendar (r .day) f premise k .references);
+          there = there-same reference (held f) (held (marked calendar (r .day) f .file))
+              (mark-leaves calendar (r .day) f premise k .references);
           closed = λ o e c.
               let still = closed-unticked business (r .day) premise o c in
               marked-found calendar (r .day) premise reference f o k (λ near m. rw still (closed-rests near o c)) e ∙ ap some still;

@@ -38,7 +38,8 @@ module _ (p : Order → Bool) where
       go false q k ih = ih k
 
   -- a test that none passes is not passed by the one found
-  pub found-fails : (other : Order → Bool) (os : List Order) (o : Order) → oldestWith p os ≡ some o → anyOf other os ≡ false → other o ≡ false
+  pub found-fails : (other : Order → Bool) (os : List Order) (o : Order) → oldestWith p os ≡ some o → anyOf other os ≡ false
+      → other o ≡ false
   found-fails other [] o e h = absurd (let z : _≡_ {A = ℕ} 0 1 = cc in omega arith)
   found-fails other (x ∷ os) o e h = go (p x) e (found-fails other os o)
     where

@@ -18,7 +18,8 @@ use Rattle.premise.specs.Orders.{withPending, asCancelled, held, withOrders}
 use Rattle.premise.specs.Passes.{Change, same, pass}
 use Rattle.premise.specs.Clock.{mostPending, grown, reviewEnds, toCancelPending, reviewed, cancelAwaited, ticked, clock}
 use Rattle.premise.specs.Evaluation.{isScheduledOrCancelPending, givesWay, sameDaySwitch, sameDaySwitches, isDisplaced, dropOnSwitchDay}
-use Rattle.premise.specs.Evaluation.{dropsOnSwitchDays, isOvertaken, permitOvertaken, permitsOvertaken, isDue, lossNotice, evaluation, evaluated}
+use Rattle.premise.specs.Evaluation.{dropsOnSwitchDays, isOvertaken, permitOvertaken, permitsOvertaken, isDue, lossNotice, evaluation}
+use Rattle.premise.specs.Evaluation.{evaluated}
 use Rattle.premise.specs.OnePremise.{marked, markedWith}
 use Rattle.premise.proofs.KeptFiles.{held-with}
 use Rattle.premise_laws.specs.Laws.{KeptFor}
@@ -179,5 +180,6 @@ module _ (calendar : List ℕ) (today premise reference : ℕ) where
       (record { kept = orders-facts (held f) (k .kept .orders); found = e }) in
       let left = file-after premise f f after k (header-of premise f k)
       (clock-leaves calendar today (f .premise) (held f) (orders-facts (held f) (k .kept .orders))) in
-      evaluated-found (withOrders f after) next (left .kept) (rests (window calendar today (withOrders f after)) (no-day-far calendar today (withOrders f after)))
+      let g : File = withOrders f after in
+      evaluated-found g next (left .kept) (rests (window calendar today g) (no-day-far calendar today g))
       (ap (orderIn reference) (held-with f after) ∙ done .found)

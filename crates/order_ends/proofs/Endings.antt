@@ -92,7 +92,8 @@ module _ (calendar : List ℕ) (premise reference : ℕ) where
   found (some o) t = (o, refl)
 
   pub stays-from : (b : Book) (ms : List Made) → bookKept b ≡ true → Played calendar b ms
-      → (o : Order) → orderFor premise reference b ≡ some o → isClosed o ≡ true → ThereAfterEach premise reference ms → orderFor premise reference (lastBook b ms) ≡ some o
+      → (o : Order) → orderFor premise reference b ≡ some o → isClosed o ≡ true → ThereAfterEach premise reference ms
+      → orderFor premise reference (lastBook b ms) ≡ some o
   stays-from b [] k p o e c t = e
   stays-from b (m ∷ ms) k p o e c t =
       stays-from (m .reply .book) ms (call-kept calendar b m k (p .0)) (p .1) o (closed-stays b m k (p .0) o e c (t .0)) c (t .1)

@@ -41,10 +41,12 @@ module _ (today last agreement : ℕ) (os : List Order) (i : ℕ) (o : Order) wh
   -- ---- the pass that may change it
   pub changes-due : isDue (upTo last) agreement o ≡ true → true ≡ changesOrder today last agreement os i o
   unfolding changesOrder
-  changes-due e = or-last (givesWay (upTo last) os i o || isDisplaced (upTo last) os o || isOvertaken today os o) (isDue (upTo last) agreement o) e
+  changes-due e =
+      or-last (givesWay (upTo last) os i o || isDisplaced (upTo last) os o || isOvertaken today os o) (isDue (upTo last) agreement o) e
 
   -- neither Scheduled nor Cancel Pending, or not in window: pass 3
-  changes-far : (isScheduledOrCancelPending o && upTo last (o .scheduled)) ≡ false → isOvertaken today os o ≡ changesOrder today last agreement os i o
+  changes-far : (isScheduledOrCancelPending o && upTo last (o .scheduled)) ≡ false
+      → isOvertaken today os o ≡ changesOrder today last agreement os i o
   unfolding changesOrder
   changes-far far =
       only-third (givesWay (upTo last) os i o) (isDisplaced (upTo last) os o) (isOvertaken today os o) (isDue (upTo last) agreement o)

@@ -5,13 +5,13 @@ use mathlib.Core.Bool.{false, and-assoc, and-false, or-assoc, or-false}
 use native.Mathlib.Omega.{arith}
 use lib.ListN.{getD, List·getD-eq-default}
 use Rattle.records.specs.declared.Record.{Record}
-use Rattle.records.specs.Records.{kindPermit, kindUnexecutable, kindAgreement, wellFormed}
+use Rattle.records.specs.Records.{kindPermit, kindUnexecutable, kindAgreement, wellFormedBy, wellFormed}
 use Rattle.records.specs.Kinds.{undatedHolds, holdsByKind}
 use Rattle.records.proofs.ByNumber.{anyAt, any-at, every-at}
 
 -- `wellFormed` is the table's entry at the record's kind.
 pub formed-is : (r : Record) → wellFormed r ≡ getD (holdsByKind r) (r .kind) false
-unfolding wellFormed
+unfolding wellFormedBy
 formed-is r =
     let e : wellFormed r ≡ anyAt (r .kind) 0 (holdsByKind r) = simp (and-assoc, and-false, or-assoc, or-false) refl in
     e ∙ any-at (r .kind) (r .kind) 0 (holdsByKind r) (omega arith)

@@ -6,16 +6,16 @@ use mathlib.Core.Bool.{Bool, true, false, cond, not, _&&_, false≢true}
 use native.Mathlib.Omega.{arith}
 use lib.Dec.{eqb, leb}
 use borrow.Author.Tests.{eqb-true, eqb-false, leb-true, leb-false, not-true}
-use Rattle.lists.proofs.TestLaws.{and-left, and-right, pass-each}
+use Rattle.lists.proofs.TestLaws.{pass-each}
 use Rattle.days.specs.Days.{lastDay, isDay}
 use Rattle.records.specs.declared.Record.{Record}
 use Rattle.records.specs.Records.{kindAgreement, standardSwitch, massTransitionDrop, replyReject, lastRetailer, unused, aReference}
 use Rattle.records.specs.Records.{aPremise, aRetailer, aRetailerOrNone, aCounter, anOrderKind, aReply, anAgreement, orderDay}
-use Rattle.records.specs.Records.{delete, aWindow, wellFormed}
+use Rattle.records.specs.Records.{delete, lastCounter, aWindow, wellFormed}
 use Rattle.records.specs.Kinds.{holds, datedHolds, undatedHolds, holdsByKind}
 use Rattle.records.specs.Laws.{Unused, ADay, AWindow, Given, ARetailerOrNone, FieldsOfKind, fieldsByKind, Fields, UpTo, OrderDay}
 use Rattle.records.specs.Laws.{Formed}
-use Rattle.records.proofs.Ranges.{window-range}
+use Rattle.records.proofs.Ranges.{tested-up-to, window-range}
 use Rattle.records.proofs.ByNumber.{_also_, every-at, Means, means-at}
 use Rattle.records.proofs.ByKind.{formed-at, formed-past}
 
@@ -31,8 +31,7 @@ is-given n h =
     omega arith
 
 is-up-to : (last n : ℕ) → (leb 1 n && leb n last) ≡ true → UpTo last n
-is-up-to last n h =
-    record { given = leb-true 1 n (and-left (leb 1 n) (leb n last) h); within = leb-true n last (and-right (leb 1 n) (leb n last) h) }
+is-up-to last n h = tested-up-to last n .0 h
 
 is-at-most : (n : ℕ) → aRetailerOrNone n ≡ true → ARetailerOrNone n
 is-at-most n h = leb-true n lastRetailer h
@@ -86,7 +85,7 @@ by-kind r =
     also are-fields unused unused aReference aPremise aRetailer r is-unused is-unused is-given is-given (is-up-to lastRetailer)
     also are-fields aReply unused aReference aPremise unused r (is-up-to replyReject) is-unused is-given is-given is-unused
     also are-fields unused isDay unused unused unused r is-unused is-day is-unused is-unused is-unused
-    also are-fields unused isDay aReference aPremise aCounter r is-unused is-day is-given is-given is-given
+    also are-fields unused isDay aReference aPremise aCounter r is-unused is-day is-given is-given (is-up-to lastCounter)
     also are-fields anAgreement unused unused aPremise aRetailer r (is-up-to delete) is-unused is-unused is-given (is-up-to lastRetailer)
     also tt
 

@@ -7,3 +7,4 @@ pub mod Formed
 pub mod Notices
 pub mod Ranges
 pub mod Readings
+pub mod Widths

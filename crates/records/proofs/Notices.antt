@@ -6,19 +6,19 @@ use native.Mathlib.Omega.{arith}
 use lib.ListN.{length, length-append}
 use Rattle.records.specs.declared.Notice.{Notice}
 use Rattle.records.specs.Layout.{Bytes, recordLength, premiseField, fieldOf}
-use Rattle.records.specs.Notices.{encode, decode, ReadsBack, encodeAll}
+use Rattle.records.specs.Notices.{encodeBy, encode, decode, ReadsBack, encodeAll}
 use Rattle.records.proofs.Fields.{number-bytes}
 
 pub length-encode : (n : Notice) → length (encode n) ≡ recordLength
-unfolding encode
+unfolding encodeBy
 length-encode n = refl
 
 pub encode-bytes : (n : Notice) → Bytes (encode n)
-unfolding encode
+unfolding encodeBy
 encode-bytes n = omega arith
 
 pub reads-back : ReadsBack
-unfolding encode decode fieldOf
+unfolding encodeBy decode fieldOf
 reads-back n fits =
     λ i. record {
       code = number-bytes 1 (n .code) (fits .code) i;
@@ -26,11 +26,11 @@ reads-back n fits =
       day = number-bytes 2 (n .day) (fits .day) i;
       reference = number-bytes 4 (n .reference) (fits .reference) i;
       premise = number-bytes 8 (n .premise) (fits .premise) i;
-      addressee = number-bytes 4 (n .addressee) (fits .addressee) i;
+      addressee = number-bytes 8 (n .addressee) (fits .addressee) i;
     }
 
 pub premise-back : (n : Notice) → n .premise < 18446744073709551616 → fieldOf premiseField (encode n) ≡ n .premise
-unfolding encode fieldOf
+unfolding encodeBy fieldOf
 premise-back n h = number-bytes 8 (n .premise) h
 
 pub length-encodeAll : (ns : List Notice) → length (encodeAll ns) ≡ recordLength * length ns

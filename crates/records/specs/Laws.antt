@@ -12,9 +12,10 @@ use Rattle.records.specs.declared.Record.{Record}
 use Rattle.records.specs.declared.Reading.{Reading}
 use Rattle.records.specs.declared.Reading.the-variants.{Malformed, Says}
 use Rattle.records.specs.Layout.{Field, GoesInto, recordLength, kindField, detailField, dayField, referenceField, premiseField}
-use Rattle.records.specs.Layout.{retailerField, zeroField, fieldOf}
+use Rattle.records.specs.Layout.{retailerField}
 use Rattle.records.specs.Records.{kindNewOrder, kindDayMark, kindDateChange, kindAgreement, standardSwitch, massTransitionDrop}
-use Rattle.records.specs.Records.{replyReject, delete, lastRetailer, aReference, aPremise, aCounter, aWindow, wellFormed, fieldsOf}
+use Rattle.records.specs.Records.{replyReject, delete, lastRetailer, lastCounter, aReference, aPremise, aRetailer, aRetailerOrNone}
+use Rattle.records.specs.Records.{aCounter, aWindow, wellFormed, fieldsOf}
 
 -- What a field holds, as facts; specs/Records.antt has the tests.
 abbrev pub Unused : ℕ → Type 0
@@ -23,7 +24,7 @@ Unused n = n ≡ 0
 abbrev pub ADay : ℕ → Type 0
 ADay n = n ≤ lastDay
 
--- a reference, a premise or a counter
+-- a reference or a premise
 abbrev pub Given : ℕ → Type 0
 Given n = 1 ≤ n
 
@@ -37,12 +38,15 @@ ARetailer = UpTo lastRetailer
 abbrev pub ARetailerOrNone : ℕ → Type 0
 ARetailerOrNone n = n ≤ lastRetailer
 
+abbrev pub ACounter : ℕ → Type 0
+ACounter = UpTo lastCounter
+
 -- a create's detail
 abbrev pub AWindow : ℕ → Type 0
 AWindow n = n ≤ mostWidth
 
--- F and a counter have 32 bits and P 64, and none is 0. The tests ask "not 0" and leave the bits to the fields: of what goes into its field
--- they say document 01's whole range.
+-- F and a counter have 32 bits and P 64, and none is 0. The tests of F and P ask "not 0" and leave the bits to the fields, that of a counter,
+-- whose field is wider, asks for both: of what goes into its field each says the document's whole range.
 abbrev pub SaysRange : (ℕ → Bool) → Field → ℕ → Type 0
 SaysRange test field last = (n : ℕ) → GoesInto field n → (test n ≡ true) ↔ UpTo last n
 
@@ -54,6 +58,13 @@ PremiseRange = SaysRange aPremise premiseField 18446744073709551615
 
 abbrev pub CounterRange : Type 0
 CounterRange = SaysRange aCounter retailerField 4294967295
+
+-- Document 02, change 7: "the limit becomes 9,999,999,999,999."
+abbrev pub RetailerRange : Type 0
+RetailerRange = (n : ℕ) → (aRetailer n ≡ true) ↔ UpTo 9999999999999 n
+
+abbrev pub RetailerOrNoneRange : Type 0
+RetailerOrNoneRange = (n : ℕ) → (aRetailerOrNone n ≡ true) ↔ (n ≤ 9999999999999)
 
 -- Document 02, change 2: "1 to 5 business days, and 0 means 2; above 5 gets 3."
 abbrev pub WindowRange : Type 0
@@ -86,7 +97,7 @@ fieldsByKind r =
     ∷ Fields Unused Unused Given Given ARetailer r
     ∷ Fields (UpTo replyReject) Unused Given Given Unused r
     ∷ Fields Unused ADay Unused Unused Unused r
-    ∷ Fields Unused ADay Given Given Given r
+    ∷ Fields Unused ADay Given Given ACounter r
     ∷ Fields (UpTo delete) Unused Unused Given ARetailer r
     ∷ []
 
@@ -114,7 +125,6 @@ pub record InWidth (r : Record) : Type 0 where
 -- what is known of bytes that say a record
 pub record Said (bytes : List ℕ) (r : Record) : Type 0 where
   pub long : length bytes ≡ recordLength
-  pub zeros : fieldOf zeroField bytes ≡ 0
   pub fields : r ≡ fieldsOf bytes
   pub formed : wellFormed r ≡ true
 

@@ -3,3 +3,4 @@ pub mod Laws
 pub mod Layout
 pub mod Notices
 pub mod Records
+pub mod Widths

@@ -4,27 +4,30 @@ use mathlib.Core.Path.{_≡_}
 use mathlib.Core.List.{List, [], _∷_, _++_}
 use lib.ListN.{length, take, drop}
 use Rattle.records.specs.declared.Notice.{Notice}
-use Rattle.records.specs.Layout.{GoesInto, recordLength, kindField, detailField, dayField, referenceField, premiseField}
-use Rattle.records.specs.Layout.{retailerField, zeroField, bytesOf, fieldOf}
+use Rattle.records.specs.Layout.{Layout, wide, GoesInto, recordLength, kindField, detailField, dayField, referenceField}
+use Rattle.records.specs.Layout.{premiseField, retailerField, bytesOf, fieldOf}
 
 -- The addressee 0 is the TDSP, the wires company.
 abbrev pub tdsp : ℕ
 tdsp = 0
 
 -- the 24 bytes of a notice: byte 0 the code, detail K, the day, F, P, the addressee
-abbrev pub noticeBytes : Notice → List ℕ
-noticeBytes n =
+abbrev pub noticeBytes : Layout → Notice → List ℕ
+noticeBytes layout n =
     bytesOf (kindField .width) (n .code)
     ++ bytesOf (detailField .width) (n .kind)
     ++ bytesOf (dayField .width) (n .day)
     ++ bytesOf (referenceField .width) (n .reference)
     ++ bytesOf (premiseField .width) (n .premise)
-    ++ bytesOf (retailerField .width) (n .addressee)
-    ++ bytesOf (zeroField .width) 0
+    ++ bytesOf (layout .retailer .width) (n .addressee)
+    ++ bytesOf (layout .rest .width) 0
 
 -- the same, shut: the layers above go by its laws
-unfoldable pub encode : Notice → List ℕ
-encode n = noticeBytes n
+unfoldable pub encodeBy : Layout → Notice → List ℕ
+encodeBy layout n = noticeBytes layout n
+
+abbrev pub encode : Notice → List ℕ
+encode = encodeBy wide
 
 -- a notice from its bytes
 unfoldable pub decode : List ℕ → Notice
@@ -52,9 +55,12 @@ abbrev pub ReadsBack : Type 0
 ReadsBack = (n : Notice) → FitsFields n → decode (encode n) ≡ n
 
 -- the bytes of a list of notices, one after another
+abbrev pub encodeAllBy : Layout → List Notice → List ℕ
+encodeAllBy layout [] = []
+encodeAllBy layout (n ∷ ns) = encodeBy layout n ++ encodeAllBy layout ns
+
 abbrev pub encodeAll : List Notice → List ℕ
-encodeAll [] = []
-encodeAll (n ∷ ns) = encode n ++ encodeAll ns
+encodeAll = encodeAllBy wide
 
 -- the first n notices of a buffer, as rows of 24 bytes
 abbrev pub rows : ℕ → List ℕ → List (List ℕ)
@@ -62,6 +68,9 @@ rows zero buffer = []
 rows (suc n) buffer = take recordLength buffer ∷ rows n (drop recordLength buffer)
 
 -- What a call leaves in the buffer that it was lent: n is the number of notices, the first 24 × n bytes hold them, and the rest stays.
-pub record Emits (before after : List ℕ) (n : ℕ) (notices : List Notice) : Type 0 where
+pub record EmitsBy (layout : Layout) (before after : List ℕ) (n : ℕ) (notices : List Notice) : Type 0 where
   pub count : n ≡ length notices
-  pub bytes : after ≡ encodeAll notices ++ drop (recordLength * length notices) before
+  pub bytes : after ≡ encodeAllBy layout notices ++ drop (recordLength * length notices) before
+
+abbrev pub Emits : List ℕ → List ℕ → ℕ → List Notice → Type 0
+Emits = EmitsBy wide

@@ -9,8 +9,7 @@ use Rattle.days.specs.Window.{mostWidth}
 use Rattle.records.specs.declared.Record.{Record}
 use Rattle.records.specs.declared.Reading.{Reading}
 use Rattle.records.specs.declared.Reading.the-variants.{Malformed, Says}
-use Rattle.records.specs.Layout.{recordLength, kindField, detailField, dayField, referenceField, premiseField, retailerField}
-use Rattle.records.specs.Layout.{zeroField, fieldOf}
+use Rattle.records.specs.Layout.{Layout, wide, recordLength, kindField, detailField, dayField, referenceField, premiseField, fieldOf}
 
 -- The record kinds, 1 to 10, and of document 02 11 (change 1) and 12 (change 3).
 abbrev pub kindCreate : ℕ
@@ -79,9 +78,13 @@ establish = 1
 abbrev pub delete : ℕ
 delete = 2
 
--- Retailers are 1 to 999,999,999.
+-- Retailers are 1 to the layout's last: 9,999,999,999,999 in the one in force.
 abbrev pub lastRetailer : ℕ
-lastRetailer = 999999999
+lastRetailer = wide .lastRetailer
+
+-- A counter has 32 bits.
+abbrev pub lastCounter : ℕ
+lastCounter = 4294967295
 
 -- What a field may hold: nothing, where the record's kind does not use it; else a value in range.
 abbrev pub unused : ℕ → Bool
@@ -93,16 +96,23 @@ aReference n = not (eqb n 0)
 abbrev pub aPremise : ℕ → Bool
 aPremise n = not (eqb n 0)
 
+abbrev pub aRetailerBy : Layout → ℕ → Bool
+aRetailerBy layout n = leb 1 n && leb n (layout .lastRetailer)
+
+abbrev pub aRetailerOrNoneBy : Layout → ℕ → Bool
+aRetailerOrNoneBy layout n = leb n (layout .lastRetailer)
+
 abbrev pub aRetailer : ℕ → Bool
-aRetailer n = leb 1 n && leb n lastRetailer
+aRetailer = aRetailerBy wide
 
 abbrev pub aRetailerOrNone : ℕ → Bool
-aRetailerOrNone n = leb n lastRetailer
+aRetailerOrNone = aRetailerOrNoneBy wide
 
 -- Document 02, change 1: "in bytes 16 to 19, an iteration counter (32 bits, not 0)". It is no retailer, and stands where other kinds have
--- theirs.
+-- theirs. Change 7: "Date changes keep their counter in 16 to 19 with 20 to 23 zero": what the wide field then holds is at most
+-- 4,294,967,295.
 abbrev pub aCounter : ℕ → Bool
-aCounter n = not (eqb n 0)
+aCounter n = leb 1 n && leb n lastCounter
 
 abbrev pub counterOf : Record → ℕ
 counterOf r = r .retailer
@@ -132,34 +142,44 @@ orderDay kind = cond (eqb kind standardSwitch) unused isDay
 -- Kind, detail and fields in range, unused fields zero: the ten kinds with the fields that document 01 gives each in brackets. Document 02,
 -- change 1: "Record kind 11 carries day, F, P and, in bytes 16 to 19, an iteration counter"; change 3: "Record kind 12 carries P, retailer
 -- and detail", "a retailer of 0 gets 3".
-unfoldable pub wellFormed : Record → Bool
-wellFormed r =
-    fits kindCreate aWindow isDay unused aPremise aRetailerOrNone r
+unfoldable pub wellFormedBy : Layout → Record → Bool
+wellFormedBy layout r =
+    fits kindCreate aWindow isDay unused aPremise (aRetailerOrNoneBy layout) r
     || fits kindRetire unused unused unused aPremise unused r
-    || fits kindNewOrder anOrderKind (orderDay (r .detail)) aReference aPremise aRetailer r
+    || fits kindNewOrder anOrderKind (orderDay (r .detail)) aReference aPremise (aRetailerBy layout) r
     || fits kindScheduled unused isDay aReference aPremise unused r
     || fits kindPermit unused unused aReference aPremise unused r
     || fits kindUnexecutable unused unused aReference aPremise unused r
     || fits kindRead unused isDay aReference aPremise unused r
-    || fits kindCancel unused unused aReference aPremise aRetailer r
+    || fits kindCancel unused unused aReference aPremise (aRetailerBy layout) r
     || fits kindReply aReply unused aReference aPremise unused r
     || fits kindDayMark unused isDay unused unused unused r
     || fits kindDateChange unused isDay aReference aPremise aCounter r
-    || fits kindAgreement anAgreement unused unused aPremise aRetailer r
+    || fits kindAgreement anAgreement unused unused aPremise (aRetailerBy layout) r
+
+abbrev pub wellFormed : Record → Bool
+wellFormed = wellFormedBy wide
 
 -- the fields of some bytes
-abbrev pub fieldsOf : List ℕ → Record
-fieldsOf bytes =
+abbrev pub fieldsBy : Layout → List ℕ → Record
+fieldsBy layout bytes =
     record {
       kind = fieldOf kindField bytes;
       detail = fieldOf detailField bytes;
       day = fieldOf dayField bytes;
       reference = fieldOf referenceField bytes;
       premise = fieldOf premiseField bytes;
-      retailer = fieldOf retailerField bytes;
+      retailer = fieldOf (layout .retailer) bytes;
     }
 
+abbrev pub fieldsOf : List ℕ → Record
+fieldsOf = fieldsBy wide
+
 -- Row 3, decided by a record's bytes alone: length not 24, kind, detail or field out of range, unused field not zero.
-unfoldable pub reading : List ℕ → Reading
-reading bytes = cond (eqb (length bytes) recordLength && eqb (fieldOf zeroField bytes) 0 && wellFormed (fieldsOf bytes))
-    (Says (fieldsOf bytes)) Malformed
+unfoldable pub readingBy : Layout → List ℕ → Reading
+readingBy layout bytes =
+    cond (eqb (length bytes) recordLength && eqb (fieldOf (layout .rest) bytes) 0 && wellFormedBy layout (fieldsBy layout bytes))
+    (Says (fieldsBy layout bytes)) Malformed
+
+abbrev pub reading : List ℕ → Reading
+reading = readingBy wide

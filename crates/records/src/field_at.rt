@@ -11,5 +11,3 @@ pub const REFERENCE: usize = 4;
 pub const PREMISE: usize = 8;
 
 pub const RETAILER: usize = 16;
-
-pub const ZERO: usize = 20;

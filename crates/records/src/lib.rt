@@ -20,9 +20,11 @@ pub const ESTABLISH: u8 = 1;
 pub const DELETE: u8 = 2;
 
 // Retailers are 1 to this number.
-pub const LAST_RETAILER: u32 = 999_999_999;
+pub const LAST_RETAILER: u64 = 9_999_999_999_999;
+// The counters of date changes are 1 to this number.
+pub const LAST_COUNTER: u64 = 4_294_967_295;
 // The addressee that is the TDSP, the wires company.
-pub const TDSP: u32 = 0;
+pub const TDSP: u64 = 0;
 
 // A record's fields, as its bytes give them.
 pub struct Record {
@@ -32,7 +34,7 @@ pub struct Record {
     pub reference: u32,
     pub premise: u64,
     // the retailer; of a date change its counter
-    pub retailer: u32,
+    pub retailer: u64,
 }
 
 // What the bytes of a record say.
@@ -49,5 +51,5 @@ pub struct Notice {
     pub day: u16,
     pub reference: u32,
     pub premise: u64,
-    pub addressee: u32,
+    pub addressee: u64,
 }

@@ -1,0 +1,141 @@
+-- Records and notices by either layout: the wide field is the narrow one and the four bytes behind it. Assumes nothing.
+use Prim.Native.Nat.{ℕ, _+_, _*_, _/_, _≤_}
+use mathlib.Core.Path.{_≡_, refl, sym, ap, ap₂, subst, _∙_}
+use mathlib.Core.List.{List, [], _∷_, _++_}
+use mathlib.Core.Bool.{Bool, true, false, cond, _&&_, and-false}
+use native.Mathlib.Omega.{arith}
+use lib.Dec.{eqb}
+use lib.ListN.{length, take, drop}
+use lib.Seq.{drop-drop}
+use borrow.Author.Tests.{eqb-true, eqb-false, ne-eqb, leb-true, le-leb}
+use Rattle.records.specs.declared.Record.{Record}
+use Rattle.records.specs.declared.Notice.{Notice}
+use Rattle.records.specs.declared.Reading.the-variants.{Malformed, Says}
+use Rattle.records.specs.Layout.{Layout, wide, narrow, recordLength, kindField, detailField, dayField, referenceField, premiseField}
+use Rattle.records.specs.Layout.{number, bytesOf, fieldOf}
+use Rattle.records.specs.Records.{kindDateChange, wellFormedBy, fieldsBy, readingBy}
+use Rattle.records.specs.Notices.{encodeBy}
+use Rattle.records.specs.Widths.{NarrowRetailers, NarrowRetailersOrNone, NarrowRest, NarrowNotice, NarrowCounter, ReadEight}
+use Rattle.records.specs.Widths.{BytesOfEight, NineDigits, SameFormed, SameReading, ToUpTo, SameNotices}
+use Rattle.records.proofs.Ranges.{tested-up-to}
+
+-- ---- the narrow layout is document 01's
+pub narrow-retailers : NarrowRetailers
+narrow-retailers n = tested-up-to 999999999 n
+
+pub narrow-retailers-or-none : NarrowRetailersOrNone
+narrow-retailers-or-none n = (leb-true n 999999999, le-leb n 999999999)
+
+pub narrow-rest : NarrowRest
+unfolding readingBy
+narrow-rest bytes h = simp (ne-eqb (fieldOf (narrow .rest) bytes) 0 h, and-false)
+
+pub narrow-notice : NarrowNotice
+unfolding encodeBy
+narrow-notice n = refl
+
+pub narrow-counter : NarrowCounter
+narrow-counter n goes = (
+  (λ h. tested-up-to 4294967295 n .0 h .given),
+  (λ given. tested-up-to 4294967295 n .1 (record { given = given; within = omega (arith, goes) })),
+)
+
+-- ---- the bytes
+number-eight : (bs : List ℕ) → number (take 8 bs) ≡ number (take 4 bs) + 4294967296 * number (take 4 (drop 4 bs))
+number-eight [] = refl
+number-eight (a ∷ []) = omega arith
+number-eight (a ∷ b ∷ []) = omega arith
+number-eight (a ∷ b ∷ c ∷ []) = omega arith
+number-eight (a ∷ b ∷ c ∷ d ∷ bs) = omega arith
+
+pub read-eight : ReadEight
+unfolding fieldOf
+read-eight bytes =
+    number-eight (drop 16 bytes)
+    ∙ ap (λ (l : List ℕ). number (take 4 (drop 16 bytes)) + 4294967296 * number (take 4 l)) (drop-drop 4 16 bytes)
+
+pub bytes-of-eight : BytesOfEight
+bytes-of-eight n h =
+    let past : n / 256 / 256 / 256 / 256 ≡ 0 = omega arith in
+    ap (λ (m : ℕ). bytesOf 4 n ++ bytesOf 4 m) past
+
+-- ---- records
+-- of a date change neither asks for the last retailer
+abbrev ofKind : Record → ℕ → Record
+ofKind r kind = record {
+  kind = kind;
+  detail = r .detail;
+  day = r .day;
+  reference = r .reference;
+  premise = r .premise;
+  retailer = r .retailer;
+}
+
+date-change-formed : (r : Record) → r .kind ≡ kindDateChange → wellFormedBy narrow r ≡ wellFormedBy wide r
+unfolding wellFormedBy
+date-change-formed r e = subst (λ (kind : ℕ). wellFormedBy narrow (ofKind r kind) ≡ wellFormedBy wide (ofKind r kind)) (sym e) refl
+
+-- any other retailer passes both limits
+retailer-formed : (r : Record) → r .retailer ≤ narrow .lastRetailer → wellFormedBy narrow r ≡ wellFormedBy wide r
+unfolding wellFormedBy
+retailer-formed r h =
+    rw (le-leb (r .retailer) (narrow .lastRetailer) h, le-leb (r .retailer) (wide .lastRetailer) (omega (arith, h))) refl
+
+pub same-formed : SameFormed
+same-formed r h = go (eqb (r .kind) kindDateChange) refl
+  where
+    go : (b : Bool) → eqb (r .kind) kindDateChange ≡ b → wellFormedBy narrow r ≡ wellFormedBy wide r
+    go true e = date-change-formed r (eqb-true (r .kind) kindDateChange e)
+    go false e = retailer-formed r (h (eqb-false (r .kind) kindDateChange e))
+
+module _ (bytes : List ℕ) (nine : NineDigits bytes) where
+  retailer-same : fieldOf (narrow .retailer) bytes ≡ fieldOf (wide .retailer) bytes
+  retailer-same = omega (arith, read-eight bytes, nine .rest)
+
+  fields-same : fieldsBy narrow bytes ≡ fieldsBy wide bytes
+  fields-same = λ i. record {
+    kind = fieldOf kindField bytes;
+    detail = fieldOf detailField bytes;
+    day = fieldOf dayField bytes;
+    reference = fieldOf referenceField bytes;
+    premise = fieldOf premiseField bytes;
+    retailer = retailer-same i;
+  }
+
+  formed-same : wellFormedBy narrow (fieldsBy narrow bytes) ≡ wellFormedBy wide (fieldsBy wide bytes)
+  formed-same = same-formed (fieldsBy narrow bytes) (nine .retailer) ∙ ap (wellFormedBy wide) fields-same
+
+  rest-same : fieldOf (narrow .rest) bytes ≡ fieldOf (wide .rest) bytes
+  unfolding fieldOf
+  rest-same = nine .rest
+
+  whole-same : readingBy narrow bytes ≡ readingBy wide bytes
+  unfolding readingBy
+  whole-same =
+      ap₂ (λ (passes : Bool) (r : Record). cond passes (Says r) Malformed)
+      (ap₂ (λ (rest : ℕ) (formed : Bool). eqb (length bytes) recordLength && eqb rest 0 && formed) rest-same formed-same) fields-same
+
+other-length : (layout : Layout) (bytes : List ℕ) → (length bytes ≡ recordLength → ⊥) → readingBy layout bytes ≡ Malformed
+unfolding readingBy
+other-length layout bytes h = simp (ne-eqb (length bytes) recordLength h)
+
+pub same-reading : SameReading
+same-reading bytes h = go (eqb (length bytes) recordLength) refl
+  where
+    go : (b : Bool) → eqb (length bytes) recordLength ≡ b → readingBy narrow bytes ≡ readingBy wide bytes
+    go true e = whole-same bytes (h (eqb-true (length bytes) recordLength e))
+    go false e =
+        let other = eqb-false (length bytes) recordLength e in
+        other-length narrow bytes other ∙ sym (other-length wide bytes other)
+
+-- ---- notices
+same-notice : (n : Notice) → ToUpTo (narrow .lastRetailer) n → encodeBy narrow n ≡ encodeBy wide n
+unfolding encodeBy
+same-notice n h =
+    ap (λ (last : List ℕ). bytesOf (kindField .width) (n .code) ++ bytesOf (detailField .width) (n .kind) ++ bytesOf (dayField .width) (n .day)
+    ++ bytesOf (referenceField .width) (n .reference) ++ bytesOf (premiseField .width) (n .premise) ++ last)
+    (sym (bytes-of-eight (n .addressee) (omega (arith, h))))
+
+pub same-notices : SameNotices
+same-notices [] h = refl
+same-notices (n ∷ ns) h = ap₂ (λ (first others : List ℕ). first ++ others) (same-notice n (h .0)) (same-notices ns (h .1))

@@ -17,7 +17,7 @@ use Rattle.records.specs.Records.{aPremise, aRetailerOrNone}
 use Rattle.premise.specs.declared.Order.{Order}
 use Rattle.premise.specs.declared.File.{File}
 use Rattle.premise.specs.Orders.{mostOrders, blank, held, places, withOrders}
-use Rattle.premise.specs.WellKept.{orderKept, distinct, isBlank, fileKept, Tidy, FileKept}
+use Rattle.premise.specs.WellKept.{orderKept, distinct, isBlank, fileKeptBy, fileKept, Tidy, FileKept}
 use Rattle.premise.specs.Laws.{KeptMeans}
 use Rattle.premise.proofs.Blank.{blank-is, blank-passes}
 
@@ -80,7 +80,7 @@ tests f =
     ∷ []
 
 file-facts : (f : File) → fileKept f ≡ true → FileKept f
-unfolding fileKept
+unfolding fileKeptBy
 file-facts f h =
     let k = pass-each (aPremise (f .premise)) (tests f) h in
     let few = leb-true (f .count) mostOrders (k .1 .1 .1 .1 .1 .1 .0) in
@@ -98,7 +98,7 @@ file-facts f h =
     }
 
 file-test : (f : File) → FileKept f → fileKept f ≡ true
-unfolding fileKept
+unfolding fileKeptBy
 file-test f k =
     let few = le-leb (f .count) mostOrders (k .tidy .few) in
     let long = eq-eqb (length (f .orders)) mostOrders (length-orders f (k .tidy)) in

@@ -10,6 +10,7 @@ use Rattle.premise.specs.Pieces.Evaluation.{sameDay, drops, overtaken, l
 use Rattle.premise.specs.Pieces.Agreements.{agreements, agreementsTold, agreementsOnTape}
 use Rattle.premise.specs.Pieces.OneDay.{oneDay}
 use Rattle.premise.specs.Pieces.Windows.{windows}
+use Rattle.premise.specs.Pieces.Retailers.{longRetailers}
 use Rattle.premise.specs.Pieces.DateChange.{redates, redatedOnTape, redatesRefused}
 use Rattle.premise.specs.Pieces.Refusals.{firstIn, statuses, premises, dayLimits, stacks, shares}
 use Rattle.premise.specs.Pieces.Kept.{keptOrders, keptFiles, numbers}
@@ -165,6 +166,10 @@ windows-hold : Hold windows
 unfolding failed windows
 windows-hold = record { none = refl }
 
+longRetailers-hold : Hold longRetailers
+unfolding failed longRetailers
+longRetailers-hold = record { none = refl }
+
 keptOrders-hold : Hold keptOrders
 unfolding failed keptOrders
 keptOrders-hold = record { none = refl }
@@ -183,5 +188,5 @@ set-pieces = (limits-hold also reviews-hold also permits-hold also switches-hold
     permitsEnd-hold also cancelsEnd-hold also sameDay-hold also drops-hold also overtaken-hold also losing-hold also firstIn-hold also
     statuses-hold also premises-hold also dayLimits-hold also stacks-hold also shares-hold also redates-hold also redatedOnTape-hold
     also redatesRefused-hold also agreements-hold also agreementsTold-hold also agreementsOnTape-hold also oneDay-hold also windows-hold
-    also keptOrders-hold also keptFiles-hold also
+    also longRetailers-hold also keptOrders-hold also keptFiles-hold also
     numbers-hold) .none

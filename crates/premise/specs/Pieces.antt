@@ -10,6 +10,7 @@ pub mod Kept
 pub mod OneDay
 pub mod Records
 pub mod Refusals
+pub mod Retailers
 pub mod Windows
 use Rattle.premise.specs.Pieces.Forms.{Piece}
 use Rattle.premise.specs.Pieces.Document.{limits, reviews, permits, switches, tape}
@@ -20,6 +21,7 @@ use Rattle.premise.specs.Pieces.DateChange.{redates, redatedOnTape, reda
 use Rattle.premise.specs.Pieces.Agreements.{agreements, agreementsTold, agreementsOnTape}
 use Rattle.premise.specs.Pieces.OneDay.{oneDay}
 use Rattle.premise.specs.Pieces.Windows.{windows}
+use Rattle.premise.specs.Pieces.Retailers.{longRetailers}
 use Rattle.premise.specs.Pieces.Refusals.{firstIn, statuses, premises, dayLimits, stacks, shares}
 use Rattle.premise.specs.Pieces.Kept.{keptOrders, keptFiles, numbers}
 
@@ -31,5 +33,5 @@ pieces =
     ++ sameDay ++ drops ++ overtaken ++ losing
     ++ firstIn ++ statuses ++ premises ++ dayLimits ++ stacks ++ shares
     ++ redates ++ redatedOnTape ++ redatesRefused
-    ++ agreements ++ agreementsTold ++ agreementsOnTape ++ oneDay ++ windows
+    ++ agreements ++ agreementsTold ++ agreementsOnTape ++ oneDay ++ windows ++ longRetailers
     ++ keptOrders ++ keptFiles ++ numbers

@@ -8,7 +8,8 @@ use lib.ListN.{length, drop}
 use Rattle.lists.specs.Search.{anyOf, allOf}
 use Rattle.days.specs.Days.{noDay, isDay}
 use Rattle.days.specs.Window.{mostWidth}
-use Rattle.records.specs.Records.{moveIn, aReference, aPremise, aRetailer, aRetailerOrNone, anOrderKind}
+use Rattle.records.specs.Layout.{Layout, wide}
+use Rattle.records.specs.Records.{moveIn, aReference, aPremise, aRetailerBy, aRetailerOrNoneBy, aRetailerOrNone, anOrderKind, lastCounter}
 use Rattle.premise.specs.declared.Order.{Order}
 use Rattle.premise.specs.declared.File.{File}
 use Rattle.premise.specs.Orders.{mostOrders, inReview, permitPending, scheduled, cancelPending, complete, unexecutable, hasStatus}
@@ -30,12 +31,13 @@ permitFits o = not (hasStatus permitPending o) || hasKind moveIn o
 abbrev pub pendingFits : Order → Bool
 pendingFits o = cond (hasStatus cancelPending o) (not (leb mostPending (o .pending .0))) (eqb (o .pending .0) 0)
 
--- an order with every field in range (of the counter of date changes that is any number of its 32 bits)
-unfoldable pub orderKept : Order → Bool
-orderKept o =
+-- An order with every field in range: a retailer by the layout's limit (document 02, change 7), and of the counter of date changes, which is
+-- kept as wide as the field that it comes from, any number of its 32 bits.
+unfoldable pub orderKeptBy : Layout → Order → Bool
+orderKeptBy layout o =
     aReference (o .reference)
     && anOrderKind (o .kind)
-    && aRetailer (o .submitter)
+    && aRetailerBy layout (o .submitter)
     && isDay (o .requested)
     && (leb inReview (o .status) && leb (o .status) unexecutable)
     && dayFits o
@@ -43,6 +45,10 @@ orderKept o =
     && leb (o .waited .0) mostWaited
     && pendingFits o
     && leb (o .told) 1
+    && leb (o .counter) lastCounter
+
+abbrev pub orderKept : Order → Bool
+orderKept = orderKeptBy wide
 
 -- F distinct in a file
 abbrev pub distinct : List Order → Bool
@@ -65,19 +71,22 @@ isBlank o =
 
 -- A file is well kept. Document 02, change 2: "The file keeps the width from 1 to 5, and a book with another width isn't well kept." (It
 -- has eight places by its type; the definition, over lists, says so.)
-unfoldable pub fileKept : File → Bool
-fileKept f =
+unfoldable pub fileKeptBy : Layout → File → Bool
+fileKeptBy layout f =
     aPremise (f .premise)
-    && aRetailerOrNone (f .retailer)
+    && aRetailerOrNoneBy layout (f .retailer)
     && isDay (f .since)
     && (leb 1 (f .window) && leb (f .window) mostWidth)
-    && aRetailerOrNone (f .agreement)
+    && aRetailerOrNoneBy layout (f .agreement)
     && leb (f .entered) 1
     && leb (f .count) mostOrders
     && eqb (length (f .orders)) mostOrders
-    && allOf orderKept (held f)
+    && allOf (orderKeptBy layout) (held f)
     && distinct (held f)
     && allOf isBlank (drop (f .count) (f .orders))
+
+abbrev pub fileKept : File → Bool
+fileKept = fileKeptBy wide
 
 -- an unused place of the book is zero in every field
 unfoldable pub fileBlank : File → Bool

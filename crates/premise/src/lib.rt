@@ -13,7 +13,7 @@ pub const MOST_WAITED: u8 = 21;
 pub const MOST_PENDING: u8 = 7;
 
 // The retailer of a premise that is de-energized.
-pub const NOBODY: u32 = 0;
+pub const NOBODY: u64 = 0;
 
 // The statuses of an order. They are numbers with names, and no enum, since a damaged book can hold any number.
 pub const IN_REVIEW: u8 = 1;
@@ -42,7 +42,7 @@ pub struct Order {
     pub reference: u32,
     pub kind: u8,
     // the submitting retailer, for a drop the gaining one
-    pub submitter: u32,
+    pub submitter: u64,
     pub requested: u16,
     // the scheduled day, or no day
     pub scheduled: u16,
@@ -51,21 +51,21 @@ pub struct Order {
     pub pending: CalendarDays,
     // whether the retailer that loses the premise has been told, 0 or 1
     pub told: u8,
-    // that of the last date change that was taken, 0 before the first
-    pub counter: u32,
+    // that of the last date change that was taken, 0 before the first; it has the type of the field that it comes from
+    pub counter: u64,
 }
 
 // A premise's file. The first `count` places of `orders` hold its orders, oldest first; the others are zero.
 pub struct File {
     pub premise: u64,
     // its retailer, 0 where the premise is de-energized
-    pub retailer: u32,
+    pub retailer: u64,
     // the day since which the retailer holds
     pub since: u16,
     // how many business days before its scheduled day an order is in window
     pub window: u8,
     // the retailer with which the owner has an agreement, 0 where there is none
-    pub agreement: u32,
+    pub agreement: u64,
     // 1 where the retailer came by a move in that was read on the day since which it holds, else 0
     pub entered: u8,
     pub count: usize,

@@ -17,7 +17,7 @@ use Rattle.premise.specs.Orders.{inReview, permitPending, scheduled, cancelPend
 use Rattle.premise.specs.Clock.{toCancelPending, ticked, reviewed, permitAwaited, cancelAwaited}
 use Rattle.premise.specs.Evaluation.{isScheduledOrCancelPending, contends, switchOfDay, givesWay, sameDaySwitch, isDisplaced}
 use Rattle.premise.specs.Evaluation.{dropOnSwitchDay, isOvertaken, permitOvertaken, isDue, lossNotice}
-use Rattle.premise.specs.WellKept.{dayFits, orderKept}
+use Rattle.premise.specs.WellKept.{dayFits, orderKeptBy, orderKept}
 use Rattle.premise_laws.proofs.Tests.{must, by-either}
 use Rattle.premise_laws.proofs.Sends.{Sends, few, sends-none, sends-one, sends-two, sends-either}
 
@@ -64,7 +64,7 @@ telling-dropping o = by-test (λ (n : ℕ). n ≤ atDropping o) (hasStatus sched
 -- ---- the clock, whatever its waits are
 -- SD none in statuses 1 and 2
 no-day : (o : Order) → orderKept o ≡ true → (hasStatus inReview o || hasStatus permitPending o) ≡ true → o .scheduled ≡ noDay
-unfolding orderKept
+unfolding orderKeptBy
 no-day o h e = eqb-true (o .scheduled) noDay (rw e at (must (dayFits o) (orderKept o) (λ n. simp (n, and-false)) h))
 
 pending-few : (premise waited : ℕ) (o : Order) → o .scheduled ≡ noDay → Sends atSettling 2 (toCancelPending premise waited o)

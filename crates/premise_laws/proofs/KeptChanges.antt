@@ -66,6 +66,7 @@ leaves o status day waited pending lossNotice k was s d p w c t =
         waited = w;
         pending = c;
         told = t;
+        counter = k .counter;
       };
     }
 

@@ -16,7 +16,7 @@ use Rattle.lists.proofs.TestLaws.{by-test, and-left, and-right, or-either}
 use Rattle.lists.proofs.SearchLaws.{each-set, each-at, place-in, count-set}
 use Rattle.records.specs.declared.Record.{Record}
 use Rattle.records.specs.Records.{kindScheduled, kindPermit, kindUnexecutable, kindRead, kindCancel, moveIn, moveOut}
-use Rattle.records.specs.Records.{kindDateChange, aRetailerOrNone, wellFormed}
+use Rattle.records.specs.Records.{kindDateChange, lastCounter, aRetailerOrNone, wellFormed}
 use Rattle.premise.specs.declared.Order.{Order}
 use Rattle.premise.specs.declared.File.{File}
 use Rattle.premise.specs.Orders.{inReview, scheduled, hasKind, hasStatus, isOpen, isOpenOf, blank, held}
@@ -81,6 +81,7 @@ module _ (calendar : List ℕ) (today : ℕ) (f : File) (r : Record) (o : Order)
           waited = wait-few calendar today;
           pending = no-pending e;
           told = refl;
+          counter = and-right (leb 1 (r .retailer)) (leb (r .retailer) lastCounter) (date-change-fits r w e .retailer);
         };
       }
 

@@ -98,6 +98,7 @@ module _ (calendar : List ℕ) (today : ℕ) (f : File) (r : Record) (w : wellFo
         waited = wait-few calendar today;
         pending = refl;
         told = refl;
+        counter = refl;
       }
 
   pub reference-free : anyOf (hasReference (r .reference)) (held f) ≡ false

@@ -11,11 +11,11 @@ use Rattle.lists.specs.Search.{allOf, Each}
 use Rattle.lists.proofs.TestLaws.{pass-each, each-pass}
 use Rattle.lists.proofs.SearchLaws.{each-of-all, all-of-each, each-map}
 use Rattle.days.specs.Days.{lastDay, noDay, isDay}
-use Rattle.records.specs.Records.{aReference, aRetailer, anOrderKind}
+use Rattle.records.specs.Records.{aReference, aRetailer, anOrderKind, lastCounter}
 use Rattle.premise.specs.declared.Order.{Order}
 use Rattle.premise.specs.Orders.{inReview, permitPending, scheduled, complete, unexecutable, hasStatus, withStatus}
 use Rattle.premise.specs.Clock.{mostWaited}
-use Rattle.premise.specs.WellKept.{orderKept, dayFits, permitFits, pendingFits}
+use Rattle.premise.specs.WellKept.{orderKeptBy, orderKept, dayFits, permitFits, pendingFits}
 
 -- the facts of a kept order, one for each test of `orderKept`
 pub record OrderKept (o : Order) : Type 0 where
@@ -29,6 +29,7 @@ pub record OrderKept (o : Order) : Type 0 where
   pub waited : leb (o .waited .0) mostWaited ≡ true
   pub pending : pendingFits o ≡ true
   pub told : leb (o .told) 1 ≡ true
+  pub counter : leb (o .counter) lastCounter ≡ true
 
 -- the tests of `orderKept` after the first
 abbrev tests : Order → List Bool
@@ -42,10 +43,11 @@ tests o =
     ∷ leb (o .waited .0) mostWaited
     ∷ pendingFits o
     ∷ leb (o .told) 1
+    ∷ leb (o .counter) lastCounter
     ∷ []
 
 pub order-facts : (o : Order) → orderKept o ≡ true → OrderKept o
-unfolding orderKept
+unfolding orderKeptBy
 order-facts o h =
     let k = pass-each (aReference (o .reference)) (tests o) h in
     record {
@@ -59,16 +61,20 @@ order-facts o h =
       waited = k .1 .1 .1 .1 .1 .1 .1 .0;
       pending = k .1 .1 .1 .1 .1 .1 .1 .1 .0;
       told = k .1 .1 .1 .1 .1 .1 .1 .1 .1 .0;
+      counter = k .1 .1 .1 .1 .1 .1 .1 .1 .1 .1 .0;
     }
 
 pub order-test : (o : Order) → OrderKept o → orderKept o ≡ true
-unfolding orderKept
+unfolding orderKeptBy
 order-test o k =
     each-pass (aReference (o .reference)) (tests o) (
       k .reference,
       (
         k .kind,
-        (k .submitter, (k .requested, (k .status, (k .scheduled, (k .permit, (k .waited, (k .pending, (k .told, tt)))))))),
+        (
+          k .submitter,
+          (k .requested, (k .status, (k .scheduled, (k .permit, (k .waited, (k .pending, (k .told, (k .counter, tt)))))))),
+        ),
       ),
     )
 

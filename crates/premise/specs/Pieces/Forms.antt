@@ -25,7 +25,7 @@ use Rattle.premise.specs.Clock.{reviewed, permitAwaited, cancelAwaited, 
 use Rattle.premise.specs.Evaluation.{contends, switchOfDay, givesWay, sameDaySwitch, isDisplaced, dropOnSwitchDay, isOvertaken}
 use Rattle.premise.specs.Evaluation.{permitOvertaken, isDue, lossNotice, evaluation}
 use Rattle.premise.specs.FirstIn.{refuses, standsInWay, notFirstIn}
-use Rattle.premise.specs.WellKept.{orderKept, isBlank, fileKept, fileBlank}
+use Rattle.premise.specs.WellKept.{orderKeptBy, orderKept, isBlank, fileKeptBy, fileKept, fileBlank}
 use Rattle.premise.specs.Refusals.{number, premiseRows, orderRows, ordersOf}
 use Rattle.premise.specs.OnePremise.{State, Given, startState, markedWith, steppedWith, stepWith, step, runs, endState}
 
@@ -359,6 +359,6 @@ unfolding kindOfDay isBusinessDay switchDate window.businessDays inWindow places
     onUnexecutable onRead supplied onCancel onReply onOrder onDateChange onNamed changed agreed reviewed permitAwaited cancelAwaited ticked
     contends switchOfDay
     givesWay sameDaySwitch isDisplaced dropOnSwitchDay isOvertaken permitOvertaken isDue lossNotice evaluation refuses standsInWay
-    notFirstIn orderKept isBlank fileKept fileBlank number premiseRows orderRows markedWith steppedWith stepWith
+    notFirstIn orderKeptBy isBlank fileKeptBy fileBlank number premiseRows orderRows markedWith steppedWith stepWith
 failed [] = []
 failed (p ∷ ps) = failing (holds (p .case)) (p .name) (failed ps)

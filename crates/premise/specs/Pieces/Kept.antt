@@ -46,10 +46,10 @@ keptOrders =
     ∷ piece "well kept: K 1 to 5"
     (keeps (map (ofKind inReview) (moveIn ∷ moveOut ∷ standardSwitch ∷ selfSelectedSwitch ∷ massTransitionDrop ∷ [])))
     ∷ piece "not well kept: K 0, 6" (damaged (ofKind inReview 0 ∷ ofKind inReview 6 ∷ []))
-    ∷ piece "well kept: Q from 1 to 999,999,999"
-    (keeps (stands 1 moveIn 1 3 noDay inReview 4 0 0 ∷ stands 1 moveIn 999999999 3 noDay inReview 4 0 0 ∷ []))
-    ∷ piece "not well kept: Q 0, 1,000,000,000"
-    (damaged (stands 1 moveIn 0 3 noDay inReview 4 0 0 ∷ stands 1 moveIn 1000000000 3 noDay inReview 4 0 0 ∷ []))
+    ∷ piece "well kept: Q from 1 to 9,999,999,999,999"
+    (keeps (stands 1 moveIn 1 3 noDay inReview 4 0 0 ∷ stands 1 moveIn 9999999999999 3 noDay inReview 4 0 0 ∷ []))
+    ∷ piece "not well kept: Q 0, 10,000,000,000,000"
+    (damaged (stands 1 moveIn 0 3 noDay inReview 4 0 0 ∷ stands 1 moveIn 10000000000000 3 noDay inReview 4 0 0 ∷ []))
     ∷ piece "well kept: RD 0 to 4,095"
     (keeps (stands 1 moveIn 201 0 noDay inReview 4 0 0 ∷ stands 1 moveIn 201 4095 noDay inReview 4 0 0 ∷ []))
     ∷ piece "not well kept: RD none" (damaged (stands 1 moveIn 201 noDay noDay inReview 4 0 0 ∷ []))
@@ -80,10 +80,11 @@ keptOrders =
     (keeps (stands 1 moveIn 201 3 12 scheduled 4 0 0 ∷ stands 1 moveIn 201 3 12 scheduled 4 0 1
     ∷ stands 1 moveOut 201 3 noDay inReview 4 0 1 ∷ []))
     ∷ piece "not well kept: told 2" (damaged (stands 1 moveIn 201 3 12 scheduled 4 0 2 ∷ []))
-    ∷ piece "well kept: any counter, whatever K and status"
+    ∷ piece "well kept: any counter of 32 bits, whatever K and status"
     (keeps (counted 1 (inStatus inReview noDay) ∷ counted 4294967295 (inStatus complete 12) ∷ counted 4294967295
     (ofKind cancelled standardSwitch)
     ∷ []))
+    ∷ piece "not well kept: a counter of 4,294,967,296" (damaged (counted 4294967296 (inStatus inReview noDay) ∷ []))
     ∷ []
 
 -- a file of window 2 with its other fields one by one
@@ -129,16 +130,16 @@ keptFiles =
     piece "well kept: P is not 0, and any other number of 64 bits"
     (keepsFiles (fileOf 1 101 5 0 (replicate 8 zeros) ∷ fileOf 18446744073709551615 101 5 0 (replicate 8 zeros) ∷ []))
     ∷ piece "not well kept: P 0" (damagedFiles (fileOf 0 101 5 0 (replicate 8 zeros) ∷ []))
-    ∷ piece "well kept: R from 0 to 999,999,999" (keepsFiles (file 0 5 [] ∷ file 999999999 5 [] ∷ []))
-    ∷ piece "not well kept: R 1,000,000,000" (damagedFiles (file 1000000000 5 [] ∷ []))
+    ∷ piece "well kept: R from 0 to 9,999,999,999,999" (keepsFiles (file 0 5 [] ∷ file 9999999999999 5 [] ∷ []))
+    ∷ piece "not well kept: R 10,000,000,000,000" (damagedFiles (file 10000000000000 5 [] ∷ []))
     ∷ piece "well kept: S 0 to 4,095" (keepsFiles (file 101 0 [] ∷ file 101 4095 [] ∷ []))
     ∷ piece "not well kept: S none" (damagedFiles (file 101 noDay [] ∷ []))
     ∷ piece "well kept: a window of 1 to 5"
     (keepsFiles (map (λ (width : ℕ). withWindow width (file 101 5 [])) (1 ∷ 2 ∷ 3 ∷ 4 ∷ 5 ∷ [])))
     ∷ piece "not well kept: a window of 0, 6" (damagedFiles (withWindow 0 (file 101 5 []) ∷ withWindow 6 (file 101 5 []) ∷ []))
-    ∷ piece "well kept: C from 0 to 999,999,999"
-    (keepsFiles (withAgreement (file 101 5 []) 1 ∷ withAgreement (file 0 5 []) 999999999 ∷ []))
-    ∷ piece "not well kept: C 1,000,000,000" (damagedFiles (withAgreement (file 101 5 []) 1000000000 ∷ []))
+    ∷ piece "well kept: C from 0 to 9,999,999,999,999"
+    (keepsFiles (withAgreement (file 101 5 []) 1 ∷ withAgreement (file 0 5 []) 9999999999999 ∷ []))
+    ∷ piece "not well kept: C 10,000,000,000,000" (damagedFiles (withAgreement (file 101 5 []) 10000000000000 ∷ []))
     ∷ piece "well kept: the mark of a move in, 0 or 1" (keepsFiles
     (file 101 5 [] ∷ enteredFile (file 101 5 []) ∷ enteredFile (file 0 5 []) ∷ []))
     ∷ piece "not well kept: a mark of 2" (damagedFiles (withSupply (file 101 5 []) 101 5 2 ∷ []))

@@ -27,6 +27,7 @@ pub mod OtherPasses
 pub mod PassTurns
 pub mod Passes
 pub mod PermitOvertaken
+pub mod Retailers
 pub mod Room
 pub mod SameDaySwitch
 pub mod Says

@@ -51,10 +51,13 @@ pub record NineDigits (bytes : List ℕ) : Type 0 where
   pub rest : fieldOf (narrow .rest) bytes ≡ 0
   pub retailer : (fieldOf kindField bytes ≡ kindDateChange → ⊥) → fieldOf (narrow .retailer) bytes ≤ narrow .lastRetailer
 
+-- a record that names a retailer up to a number, or none
+abbrev pub NamesUpTo : ℕ → Record → Type 0
+NamesUpTo last r = (r .kind ≡ kindDateChange → ⊥) → r .retailer ≤ last
+
 -- the two tests are one where the retailer passes both limits
 abbrev pub SameFormed : Type 0
-SameFormed =
-    (r : Record) → ((r .kind ≡ kindDateChange → ⊥) → r .retailer ≤ narrow .lastRetailer) → wellFormedBy narrow r ≡ wellFormedBy wide r
+SameFormed = (r : Record) → NamesUpTo (narrow .lastRetailer) r → wellFormedBy narrow r ≡ wellFormedBy wide r
 
 -- Such bytes say the same by either layout; bytes of another length meet row 3 by both.
 abbrev pub SameReading : Type 0

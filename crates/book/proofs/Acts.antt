@@ -24,7 +24,7 @@ use Rattle.premise.proofs.Answers.{answer-is-first-row, refusal-is, mark-step}
 use Rattle.premise.proofs.Table.{accepted-is-zero}
 use Rattle.book.specs.declared.Book.{Book}
 use Rattle.book.specs.Book.{filesOf, bookOf, fileFor, withFile}
-use Rattle.book.specs.Calls.{noticeBytes, recordRows, premiseState, Result, onPremise, onReading, refusal, call, meetsRow6, callWith}
+use Rattle.book.specs.Calls.{noticeBytes, recordRows, premiseState, Result, onPremise, onReading, refusal, call, meetsRow6, callBy}
 use Rattle.book.specs.Calls.{markedBook, onDayMark, asOne, inBook}
 use Rattle.book.specs.Laws.{BookKept}
 use Rattle.book.proofs.Files.{rises-rising}
@@ -97,7 +97,7 @@ module _ (calendar : List ℕ) (b : Book) where
   -- What a call does.
   pub call-acts : (bytes lent : List ℕ) → BookKept b → noticeBytes ≤ length lent → meetsRow6 b (reading bytes) ≡ false
       → call calendar b bytes lent ≡ acted calendar b (reading bytes)
-  unfolding callWith
+  unfolding callBy
   call-acts bytes lent k room places =
       ap (λ first. decided first (reading bytes)) (record-decides calendar b bytes lent room (book-kept-means b .1 k))
       ∙ go (reading bytes) refl places

@@ -17,7 +17,7 @@ use Rattle.premise.specs.Refusals.{firstRow}
 use Rattle.premise.specs.OnePremise.{step, refused}
 use Rattle.book.specs.declared.Book.{Book}
 use Rattle.book.specs.Calls.{noticeBytes, recordRows, premiseState, Result, refusal, call, meetsRow6, onDayMark, inBook, asOne}
-use Rattle.book.specs.Calls.{callWith}
+use Rattle.book.specs.Calls.{callBy}
 use Rattle.book.specs.Laws.{BookKept}
 use Rattle.book.proofs.Kept.{book-kept-means}
 use Rattle.book.proofs.Rows.{record-decides, refusing}
@@ -27,7 +27,7 @@ use Rattle.book.proofs.Acts.{acted, call-acts, decided, refuses, put-ba
 module _ (calendar : List ℕ) (b : Book) (bytes lent : List ℕ) (r : Record) (k : BookKept b) (room : noticeBytes ≤ length lent)
     (e : reading bytes ≡ Says r) where
   pub call-full : meetsRow6 b (Says r) ≡ true → call calendar b bytes lent ≡ refusal BookFull b
-  unfolding callWith
+  unfolding callBy
   call-full full =
       ap (λ (first : Answer). decided calendar b first (reading bytes))
       (record-decides calendar b bytes lent room (book-kept-means b .1 k) ∙ ap (λ (d : Reading). firstRow (recordRows calendar b d)) e

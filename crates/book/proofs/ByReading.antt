@@ -23,7 +23,7 @@ use Rattle.premise.specs.Refusals.{Row, row, firstRow, isHeld, premiseRows, fil
 use Rattle.premise.specs.OnePremise.{marked}
 use Rattle.premise.proofs.Table.{needs-file}
 use Rattle.book.specs.Book.{mostFiles, filesOf, bookOf, fileFor}
-use Rattle.book.specs.Calls.{recordRows, markedFiles, meetsRow6, onDayMark, asOne, callWith}
+use Rattle.book.specs.Calls.{recordRows, markedFiles, meetsRow6, onDayMark, asOne, callBy}
 use Rattle.book.specs.Laws.{numbersOf, CallMalformed, CallNotHeld, CallOnMark, MarkKeepsNumbers}
 use Rattle.book.proofs.Kept.{book-kept-means}
 use Rattle.book.proofs.Rows.{refusing, record-decides}
@@ -36,7 +36,7 @@ call-malformed calendar b bytes lent well room e =
 
 -- ---- a premise that is not held
 pub call-not-held : CallNotHeld
-unfolding callWith
+unfolding callBy
 call-not-held calendar b bytes lent r well room e needs absent =
     let full : Row = row BookFull (is kindCreate r && eqb (length (filesOf b)) mostFiles) in
     let later : Option File → List Row = (λ file. full ∷ fileRows calendar (b .today) file r) in

@@ -16,7 +16,7 @@ use Rattle.premise.specs.Refusals.{firstRow, number}
 use Rattle.premise.proofs.Table.{accepted-is-zero}
 use Rattle.premise.proofs.Answers.{holds}
 use Rattle.book.specs.declared.Book.{Book}
-use Rattle.book.specs.Calls.{recordRows, callRows, Result, onPremise, onReading, refusal, call, markedBook, callWith}
+use Rattle.book.specs.Calls.{recordRows, callRows, Result, onPremise, onReading, refusal, call, markedBook, callBy}
 use Rattle.book.proofs.Rows.{passed, not-malformed}
 
 module _ (calendar : List ℕ) (b : Book) (bytes lent : List ℕ) where
@@ -26,7 +26,7 @@ module _ (calendar : List ℕ) (b : Book) (bytes lent : List ℕ) where
       (onPremise calendar b r) (λ t. refl) (λ t. refl)
 
   pub call-answer : call calendar b bytes lent .answer ≡ firstRow (callRows calendar b bytes lent)
-  unfolding callWith
+  unfolding callBy
   call-answer =
       by-test (λ (x : Result). x .answer ≡ firstRow (callRows calendar b bytes lent))
       (eqb (number (firstRow (callRows calendar b bytes lent))) 0)
@@ -39,5 +39,5 @@ module _ (calendar : List ℕ) (b : Book) (bytes lent : List ℕ) where
 
   pub call-refused : (number (firstRow (callRows calendar b bytes lent)) ≡ 0 → ⊥)
       → call calendar b bytes lent ≡ refusal (firstRow (callRows calendar b bytes lent)) b
-  unfolding callWith
+  unfolding callBy
   call-refused n = rw (ne-eqb (number (firstRow (callRows calendar b bytes lent))) 0 n)

@@ -13,7 +13,7 @@ use Rattle.lists.proofs.Find.{drop-none}
 use Rattle.records.specs.Layout.{recordLength}
 use Rattle.book.specs.declared.Book.{Book}
 use Rattle.book.specs.Book.{bookKept}
-use Rattle.book.specs.Calls.{noticeBytes, Result, call, callWith}
+use Rattle.book.specs.Calls.{noticeBytes, Result, call, callBy}
 use Rattle.book.specs.CallsInRow.{recordsOf, called, Course, stopped, andThen, callsInRow, noticesOf}
 use Rattle.book.proofs.Rows.{record-decides}
 use Rattle.book.proofs.Keeps.{call-keeps}
@@ -69,7 +69,7 @@ lent-record tape from to e = take-within (to - from) recordLength (drop from tap
 call-lent : (calendar : List ℕ) (b : Book) (bytes lent other : List ℕ) → bookKept b ≡ true → noticeBytes ≤ length lent
     → noticeBytes ≤ length other
     → call calendar b bytes lent ≡ call calendar b bytes other
-unfolding callWith
+unfolding callBy
 call-lent calendar b bytes lent other kept h k =
     rw (record-decides calendar b bytes lent h kept, record-decides calendar b bytes other k kept)
 

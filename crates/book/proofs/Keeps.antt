@@ -28,7 +28,7 @@ use Rattle.premise.proofs.Answers.{only-create-makes, holds}
 use Rattle.book.specs.declared.Book.{Book}
 use Rattle.book.specs.Book.{mostFiles, filesOf, bookKept, fileFor, putIn, withFile}
 use Rattle.book.specs.Calls.{recordRows, callRows, markedFiles, premiseState, Result, onPremise, onReading, call, markedBook}
-use Rattle.book.specs.Calls.{callWith}
+use Rattle.book.specs.Calls.{callBy}
 use Rattle.book.specs.Laws.{BookKept, CallKeeps}
 use Rattle.book.proofs.Files.{found-has, rises-rising, rising-rises}
 use Rattle.book.proofs.FilesPut.{put-length, put-held}
@@ -115,7 +115,7 @@ pub by-call : (P : Result → Type 0) (calendar : List ℕ) (b : Book) (bytes le
     → ((r : Record) → FileAfter calendar b bytes lent → wellFormed r ≡ true → is kindDayMark r ≡ false
     → (is kindCreate r && eqb (length (filesOf b)) mostFiles) ≡ false → P (onPremise calendar b r))
     → P (call calendar b bytes lent)
-unfolding callWith
+unfolding callBy
 by-call P calendar b bytes lent refused mark other =
     by-test P (eqb (number (firstRow (callRows calendar b bytes lent))) 0) (onReading calendar b (reading bytes)) _
     (λ t. let p = passed calendar b bytes lent (eqb-true _ 0 t) in go p (reading bytes) refl (p .none))

@@ -18,7 +18,7 @@ use Rattle.premise.specs.WellKept.{fileKept, fileBlank, FileKept}
 use Rattle.premise.proofs.Blank.{blank-means}
 use Rattle.premise.proofs.KeptFiles.{kept-means}
 use Rattle.book.specs.declared.Book.{Book}
-use Rattle.book.specs.Book.{mostFiles, filesOf, bookOf, risesFrom, bookKept}
+use Rattle.book.specs.Book.{mostFiles, filesOf, bookOf, risesFrom, bookKeptBy, bookKept}
 use Rattle.book.specs.Laws.{TidyBook, BookKept, BookKeptMeans, HoldsItsFiles, FreshKept, withFileAt}
 
 -- ---- every file of a list
@@ -47,7 +47,7 @@ whole b few long unused =
     λ i. record { today = b .today; count = sym counted i; files = files i }
 
 kept-facts : (b : Book) → bookKept b ≡ true → BookKept b
-unfolding bookKept
+unfolding bookKeptBy
 kept-facts b e =
     let day : Bool = isDay (b .today) in
     let few : Bool = leb (b .count) mostFiles in
@@ -67,7 +67,7 @@ kept-facts b e =
 -- a day, and at most 64 files that are well kept and rise, make a well-kept book
 pub kept-of : (today : ℕ) (fs : List File) → today ≤ lastDay → length fs ≤ mostFiles → Each FileKept fs → risesFrom 0 fs ≡ true
     → bookKept (bookOf today fs) ≡ true
-unfolding bookKept bookOf
+unfolding bookKeptBy bookOf
 kept-of today fs day few kept rising =
     let long : length (fs ++ replicate (mostFiles - length fs) blankFile) ≡ mostFiles =
     simp (length-append, length-replicate) (omega arith) in

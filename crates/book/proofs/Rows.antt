@@ -26,7 +26,7 @@ use Rattle.premise.proofs.Table.{accepted-is-zero, create-held}
 use Rattle.premise.proofs.Answer.{the-type}
 use Rattle.book.specs.declared.Book.{Book}
 use Rattle.book.specs.Book.{mostFiles, filesOf, bookKept, fileFor}
-use Rattle.book.specs.Calls.{noticeBytes, recordRows, callRows, premiseState, meetsRow6, callRowsWith}
+use Rattle.book.specs.Calls.{noticeBytes, recordRows, callRows, premiseState, meetsRow6, callRowsBy}
 
 -- ---- which answers refuse
 abbrev pub Refuses : Answer → Type 0
@@ -122,20 +122,20 @@ module _ (calendar : List ℕ) (b : Book) (bytes lent : List ℕ) where
   -- with a long enough buffer and a well-kept book the first row is one of the record's
   pub record-decides : noticeBytes ≤ length lent → bookKept b ≡ true
       → firstRow (callRows calendar b bytes lent) ≡ firstRow (recordRows calendar b (reading bytes))
-  unfolding callRowsWith
+  unfolding callRowsBy
   record-decides h k =
       ap₂ (λ (short kept : Bool). firstRow (row ShortBuffer short ∷ row NotWellKept (not kept) ∷ recordRows calendar b (reading bytes)))
       (le-ltb (length lent) noticeBytes h) k
 
   pub call-exact : Exact (callRows calendar b bytes lent)
-  unfolding callRowsWith
+  unfolding callRowsBy
   call-exact =
       let rest : List Row = recordRows calendar b (reading bytes) in
       exact-cons ShortBuffer (ltb (length lent) noticeBytes) (row NotWellKept (not (bookKept b)) ∷ rest) (refusing ShortBuffer refl)
       (exact-cons NotWellKept (not (bookKept b)) rest (refusing NotWellKept refl) (record-exact calendar b (reading bytes)))
 
   pub passed : number (firstRow (callRows calendar b bytes lent)) ≡ 0 → FileAfter calendar b bytes lent
-  unfolding callRowsWith
+  unfolding callRowsBy
   passed e =
       let short : Bool = ltb (length lent) noticeBytes in
       let unkept : Bool = not (bookKept b) in

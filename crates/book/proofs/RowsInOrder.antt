@@ -17,7 +17,7 @@ use Rattle.premise.specs.Laws.{rowNumbers}
 use Rattle.premise.proofs.Table.{premise-row-numbers, order-row-numbers, book-answers}
 use Rattle.book.specs.declared.Book.{Book}
 use Rattle.book.specs.Book.{mostFiles, filesOf, bookKept, fileFor}
-use Rattle.book.specs.Calls.{noticeBytes, recordRows, callRows, refusal, call, callRowsWith}
+use Rattle.book.specs.Calls.{noticeBytes, recordRows, callRows, refusal, call, callRowsBy}
 use Rattle.book.specs.Laws.{RowsOfRecord, RowsOfMalformed, CallShort, CallNotKept}
 use Rattle.book.proofs.Rows.{refusing}
 use Rattle.book.proofs.CallAnswer.{call-refused}
@@ -38,7 +38,7 @@ full-is-6 = ap (λ (ns : List ℕ). getD ns 3 0) book-answers
 module _ (calendar : List ℕ) (b : Book) (bytes lent : List ℕ) where
   -- rows 1 and 2, and then the record's
   first-two : rowNumbers (callRows calendar b bytes lent) ≡ 1 ∷ 2 ∷ rowNumbers (recordRows calendar b (reading bytes))
-  unfolding callRowsWith
+  unfolding callRowsBy
   first-two = ap₂ (λ (n m : ℕ). n ∷ m ∷ rowNumbers (recordRows calendar b (reading bytes))) short-is-1 unkept-is-2
 
 pub rows-of-malformed : RowsOfMalformed
@@ -66,14 +66,14 @@ module _ (calendar : List ℕ) (b : Book) (bytes lent : List ℕ) where
       call-refused calendar b bytes lent (λ z. n (sym (ap number e) ∙ z)) ∙ ap (λ (first : Answer). refusal first b) e
 
 pub call-short : CallShort
-unfolding callRowsWith
+unfolding callRowsBy
 call-short calendar b bytes lent h =
     refused-by calendar b bytes lent ShortBuffer (refusing ShortBuffer refl)
     (ap (λ (short : Bool). firstRow (row ShortBuffer short ∷ row NotWellKept (not (bookKept b)) ∷ recordRows calendar b (reading bytes)))
     (lt-ltb (length lent) noticeBytes h))
 
 pub call-not-kept : CallNotKept
-unfolding callRowsWith
+unfolding callRowsBy
 call-not-kept calendar b bytes lent h k =
     refused-by calendar b bytes lent NotWellKept (refusing NotWellKept refl)
     (ap₂ (λ (short kept : Bool). firstRow (row ShortBuffer short ∷ row NotWellKept (not kept) ∷ recordRows calendar b (reading bytes)))

@@ -7,9 +7,10 @@ use lib.Dec.{eqb, leb, ltb}
 use lib.ListN.{length, take, drop, replicate}
 use Rattle.lists.specs.Search.{allOf}
 use Rattle.days.specs.Days.{lastDay, isDay}
+use Rattle.records.specs.Layout.{Layout, wide}
 use Rattle.premise.specs.declared.File.{File}
 use Rattle.premise.specs.Orders.{blankFile}
-use Rattle.premise.specs.WellKept.{fileKept, fileBlank}
+use Rattle.premise.specs.WellKept.{fileKeptBy, fileBlank}
 use Rattle.book.specs.declared.Book.{Book}
 
 -- up to 64 files
@@ -34,14 +35,18 @@ risesFrom n [] = true
 risesFrom n (f ∷ fs) = ltb n (f .premise) && risesFrom (f .premise) fs
 
 -- Well kept: T and every file in range, P rising, unused places zero. (It has 64 places by its type; the definition, over lists, says so.)
-unfoldable pub bookKept : Book → Bool
-bookKept b =
+-- Document 02, change 7: retailers are in range by the layout's limit.
+unfoldable pub bookKeptBy : Layout → Book → Bool
+bookKeptBy layout b =
     isDay (b .today)
     && leb (b .count) mostFiles
     && eqb (length (b .files)) mostFiles
-    && allOf fileKept (filesOf b)
+    && allOf (fileKeptBy layout) (filesOf b)
     && risesFrom 0 (filesOf b)
     && allOf fileBlank (drop (b .count) (b .files))
+
+abbrev pub bookKept : Book → Bool
+bookKept = bookKeptBy wide
 
 -- the file of a premise, or none
 unfoldable pub fileFor : ℕ → List File → Option File

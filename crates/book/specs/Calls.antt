@@ -9,7 +9,8 @@ use Rattle.records.specs.declared.Record.{Record}
 use Rattle.records.specs.declared.Reading.{Reading}
 use Rattle.records.specs.declared.Reading.the-variants.{Malformed, Says}
 use Rattle.records.specs.declared.Notice.{Notice}
-use Rattle.records.specs.Records.{reading, kindCreate, kindDayMark}
+use Rattle.records.specs.Layout.{Layout, wide}
+use Rattle.records.specs.Records.{readingBy, kindCreate, kindDayMark}
 use Rattle.premise.specs.declared.File.{File}
 use Rattle.premise.specs.declared.Answer.{Answer}
 use Rattle.premise.specs.declared.Answer.the-variants.{Accepted, ShortBuffer, NotWellKept, MalformedRecord, BookFull, NotNextDay}
@@ -18,7 +19,7 @@ use Rattle.premise.specs.Steps.{is}
 use Rattle.premise.specs.Refusals.{Row, row, firstRow, number, isHeld, premiseRows, fileRowsWith}
 use Rattle.premise.specs.OnePremise.{State, Given, markedWith, stepWith, step}
 use Rattle.book.specs.declared.Book.{Book}
-use Rattle.book.specs.Book.{mostFiles, filesOf, bookOf, bookKept, fileFor, withFile}
+use Rattle.book.specs.Book.{mostFiles, filesOf, bookOf, bookKeptBy, fileFor, withFile}
 
 -- the shortest buffer that is taken
 abbrev pub noticeBytes : ℕ
@@ -37,12 +38,15 @@ recordRowsWith width calendar b (Says r) =
 abbrev pub recordRows : List ℕ → Book → Reading → List Row
 recordRows = recordRowsWith keptWidth
 
--- the whole table, in its order
-unfoldable pub callRowsWith : (File → ℕ) → List ℕ → Book → List ℕ → List ℕ → List Row
-callRowsWith width calendar b bytes lent =
+-- the whole table, in its order: rows 2 and 3 by a layout
+unfoldable pub callRowsBy : Layout → (File → ℕ) → List ℕ → Book → List ℕ → List ℕ → List Row
+callRowsBy layout width calendar b bytes lent =
     row ShortBuffer (ltb (length lent) noticeBytes)
-    ∷ row NotWellKept (not (bookKept b))
-    ∷ recordRowsWith width calendar b (reading bytes)
+    ∷ row NotWellKept (not (bookKeptBy layout b))
+    ∷ recordRowsWith width calendar b (readingBy layout bytes)
+
+abbrev pub callRowsWith : (File → ℕ) → List ℕ → Book → List ℕ → List ℕ → List Row
+callRowsWith = callRowsBy wide
 
 abbrev pub callRows : List ℕ → Book → List ℕ → List ℕ → List Row
 callRows = callRowsWith keptWidth
@@ -114,13 +118,16 @@ onReading = onReadingWith keptWidth
 abbrev pub refusal : Answer → Book → Result
 refusal answer b = record { answer = answer; notices = []; book = b }
 
-unfoldable pub callWith : (File → ℕ) → List ℕ → Book → List ℕ → List ℕ → Result
-callWith width calendar b bytes lent =
-    cond (eqb (number (firstRow (callRowsWith width calendar b bytes lent))) 0)
-    (onReadingWith width calendar b (reading bytes))
-    (refusal (firstRow (callRowsWith width calendar b bytes lent)) b)
+unfoldable pub callBy : Layout → (File → ℕ) → List ℕ → Book → List ℕ → List ℕ → Result
+callBy layout width calendar b bytes lent =
+    cond (eqb (number (firstRow (callRowsBy layout width calendar b bytes lent))) 0)
+    (onReadingWith width calendar b (readingBy layout bytes))
+    (refusal (firstRow (callRowsBy layout width calendar b bytes lent)) b)
 
--- The rules in force: each file has the width that it keeps.
+abbrev pub callWith : (File → ℕ) → List ℕ → Book → List ℕ → List ℕ → Result
+callWith = callBy wide
+
+-- The rules in force: the wide layout, and each file has the width of window that it keeps.
 abbrev pub call : List ℕ → Book → List ℕ → List ℕ → Result
 call = callWith keptWidth
 

@@ -2,16 +2,22 @@
 use mathlib.Core.Path.{_≡_}
 use mathlib.Core.List.{List}
 use Prim.Native.Nat.{ℕ}
-use Rattle.records.specs.Notices.{Emits}
+use Rattle.records.specs.Layout.{Layout, wide}
+use Rattle.records.specs.Notices.{EmitsBy}
+use Rattle.premise.specs.Orders.{keptWidth}
 use Rattle.book.specs.declared.Book.{Book}
 use Rattle.book.specs.declared.Reply.{Reply}
-use Rattle.book.specs.Calls.{call}
+use Rattle.book.specs.Calls.{callBy}
 
 -- Acceptance returns 0 and the count n; the first 24 × n bytes hold the notices and the rest stays. A refusal has no notices.
-pub record Promised (calendar : List ℕ) (b : Book) (bytes before : List ℕ) (r : Reply) (after : List ℕ) : Type 0 where
-  pub answer : r .answer ≡ call calendar b bytes before .answer
-  pub book : r .book ≡ call calendar b bytes before .book
-  pub notices : Emits before after (r .sent) (call calendar b bytes before .notices)
+pub record PromisedBy (layout : Layout) (calendar : List ℕ) (b : Book) (bytes before : List ℕ) (r : Reply) (after : List ℕ) : Type 0 where
+  pub answer : r .answer ≡ callBy layout keptWidth calendar b bytes before .answer
+  pub book : r .book ≡ callBy layout keptWidth calendar b bytes before .book
+  pub notices : EmitsBy layout before after (r .sent) (callBy layout keptWidth calendar b bytes before .notices)
+
+-- The promise that the code keeps: by the wide layout.
+abbrev pub Promised : List ℕ → Book → List ℕ → List ℕ → Reply → List ℕ → Type 0
+Promised = PromisedBy wide
 
 -- Nothing is free: two replies that are promised for one call are the same, and so are the two buffers.
 pub record Same (r s : Reply) (after later : List ℕ) : Type 0 where

@@ -1,8 +1,8 @@
 -- A well-kept book: the test and the facts behind it say the same, and a book is made of its day and its files. Assumes nothing.
 use Prim.Native.Nat.{ℕ, _-_, _≤_, _<_, min}
-use mathlib.Core.Path.{_≡_, refl, ap, sym, _∙_}
+use mathlib.Core.Path.{_≡_, refl, ap, ap₂, sym, _∙_}
 use mathlib.Core.List.{List, [], _∷_, _++_}
-use mathlib.Core.Bool.{Bool, true}
+use mathlib.Core.Bool.{Bool, true, _&&_}
 use native.Mathlib.Omega.{arith}
 use lib.Dec.{eqb, leb}
 use lib.ListN.{length, drop, set, replicate, length-append, length-drop, length-replicate, length-set, take-append-drop}
@@ -12,14 +12,17 @@ use Rattle.lists.specs.Search.{allOf, Each}
 use Rattle.lists.proofs.TestLaws.{pass-each}
 use Rattle.lists.proofs.SearchLaws.{each-of-all, all-of-each, each-map, all-are, all-same}
 use Rattle.days.specs.Days.{lastDay, isDay}
+use Rattle.records.specs.Layout.{wide, narrow}
 use Rattle.premise.specs.declared.File.{File}
 use Rattle.premise.specs.Orders.{blankFile}
-use Rattle.premise.specs.WellKept.{fileKept, fileBlank, FileKept}
+use Rattle.premise.specs.WellKept.{fileKeptBy, fileKept, fileBlank, FileKept}
 use Rattle.premise.proofs.Blank.{blank-means}
 use Rattle.premise.proofs.KeptFiles.{kept-means}
+use Rattle.premise_laws.specs.Retailers.{RetailersUpTo}
+use Rattle.premise_laws.proofs.Retailers.{kept-by-either}
 use Rattle.book.specs.declared.Book.{Book}
 use Rattle.book.specs.Book.{mostFiles, filesOf, bookOf, risesFrom, bookKeptBy, bookKept}
-use Rattle.book.specs.Laws.{TidyBook, BookKept, BookKeptMeans, HoldsItsFiles, FreshKept, withFileAt}
+use Rattle.book.specs.Laws.{TidyBook, BookKept, BookKeptMeans, BookKeptByEither, HoldsItsFiles, FreshKept, withFileAt}
 
 -- ---- every file of a list
 each-kept : (fs : List File) → allOf fileKept fs ≡ true → Each FileKept fs
@@ -109,6 +112,15 @@ facts-kept b k = ap bookKept (k .tidy .whole)
 
 pub book-kept-means : BookKeptMeans
 book-kept-means b = (kept-facts b, facts-kept b)
+
+-- ---- by either layout
+files-by-either : (fs : List File) → Each (RetailersUpTo (narrow .lastRetailer)) fs → allOf (fileKeptBy narrow) fs ≡ allOf (fileKeptBy wide) fs
+files-by-either [] h = refl
+files-by-either (f ∷ fs) h = ap₂ (λ (a b : Bool). a && b) (kept-by-either f (h .0)) (files-by-either fs (h .1))
+
+pub book-kept-by-either : BookKeptByEither
+unfolding bookKeptBy
+book-kept-by-either b h = rw (files-by-either (filesOf b) h) refl
 
 pub fresh-kept : FreshKept
 fresh-kept start = kept-of (min start lastDay) [] (omega arith) (omega arith) tt refl

@@ -10,7 +10,7 @@ use Rattle.lists.specs.Search.{Each}
 use Rattle.days.specs.Days.{lastDay}
 use Rattle.records.specs.declared.Record.{Record}
 use Rattle.records.specs.declared.Reading.the-variants.{Malformed, Says}
-use Rattle.records.specs.Layout.{recordLength}
+use Rattle.records.specs.Layout.{recordLength, wide, narrow}
 use Rattle.records.specs.Records.{kindDayMark, wellFormed, reading}
 use Rattle.premise.specs.declared.File.{File}
 use Rattle.premise.specs.declared.Answer.the-variants.{ShortBuffer, NotWellKept, MalformedRecord, NoSuchPremise}
@@ -21,8 +21,9 @@ use Rattle.premise.specs.WellKept.{FileKept}
 use Rattle.premise.specs.Laws.{rowNumbers}
 use Rattle.premise.specs.Promises.{StaysHeld}
 use Rattle.premise_laws.specs.Laws.{KeptFor}
+use Rattle.premise_laws.specs.Retailers.{RetailersUpTo}
 use Rattle.book.specs.declared.Book.{Book}
-use Rattle.book.specs.Book.{mostFiles, filesOf, bookOf, freshBook, risesFrom, bookKept, fileFor}
+use Rattle.book.specs.Book.{mostFiles, filesOf, bookOf, freshBook, risesFrom, bookKeptBy, bookKept, fileFor}
 use Rattle.book.specs.Calls.{noticeBytes, callRows, meetsRow6, markedFiles, markedNotices, premiseState, Result, onPremise, refusal}
 use Rattle.book.specs.Calls.{call, onDayMark}
 
@@ -42,6 +43,10 @@ pub record BookKept (b : Book) : Type 0 where
 -- the test and the facts behind it say the same
 abbrev pub BookKeptMeans : Type 0
 BookKeptMeans = (b : Book) → (bookKept b ≡ true) ↔ BookKept b
+
+-- Document 02, change 7: a book without a retailer above the narrow limit is well kept by the one layout exactly where it is by the other.
+abbrev pub BookKeptByEither : Type 0
+BookKeptByEither = (b : Book) → Each (RetailersUpTo (narrow .lastRetailer)) (filesOf b) → bookKeptBy narrow b ≡ bookKeptBy wide b
 
 -- a book made of files holds them
 abbrev pub HoldsItsFiles : Type 0

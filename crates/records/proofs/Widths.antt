@@ -10,14 +10,17 @@ use lib.Seq.{drop-drop}
 use borrow.Author.Tests.{eqb-true, eqb-false, ne-eqb, leb-true, le-leb}
 use Rattle.records.specs.declared.Record.{Record}
 use Rattle.records.specs.declared.Notice.{Notice}
+use Rattle.records.specs.declared.Reading.{Reading}
 use Rattle.records.specs.declared.Reading.the-variants.{Malformed, Says}
 use Rattle.records.specs.Layout.{Layout, wide, narrow, recordLength, kindField, detailField, dayField, referenceField, premiseField}
 use Rattle.records.specs.Layout.{number, bytesOf, fieldOf}
 use Rattle.records.specs.Records.{kindDateChange, wellFormedBy, fieldsBy, readingBy}
 use Rattle.records.specs.Notices.{encodeBy}
 use Rattle.records.specs.Widths.{NarrowRetailers, NarrowRetailersOrNone, NarrowRest, NarrowNotice, NarrowCounter, ReadEight}
-use Rattle.records.specs.Widths.{BytesOfEight, NineDigits, SameFormed, SameReading, ToUpTo, SameNotices}
+use Rattle.records.specs.Widths.{BytesOfEight, NineDigits, SameFormed, SameReading, NamedUpTo, SaysUpTo, ToUpTo, SameNotices}
+use Rattle.records.specs.Laws.{SaidIn}
 use Rattle.records.proofs.Ranges.{tested-up-to}
+use Rattle.records.proofs.Readings.{reading-said}
 
 -- ---- the narrow layout is document 01's
 pub narrow-retailers : NarrowRetailers
@@ -127,6 +130,17 @@ same-reading bytes h = go (eqb (length bytes) recordLength) refl
     go false e =
         let other = eqb-false (length bytes) recordLength e in
         other-length narrow bytes other ∙ sym (other-length wide bytes other)
+
+pub says-up-to : SaysUpTo
+says-up-to bytes h = go (readingBy wide bytes) (reading-said bytes)
+  where
+    go : (d : Reading) → SaidIn bytes d → NamedUpTo (narrow .lastRetailer) d
+    go Malformed said = tt
+    go (Says r) said = λ other.
+        let nine = h (said .long) in
+        let kind : r .kind ≡ fieldOf kindField bytes = ap (λ (x : Record). x .kind) (said .fields) in
+        let retailer : r .retailer ≡ fieldOf (wide .retailer) bytes = ap (λ (x : Record). x .retailer) (said .fields) in
+        omega (arith, retailer, retailer-same bytes nine, nine .retailer (λ d. other (kind ∙ d)))
 
 -- ---- notices
 same-notice : (n : Notice) → ToUpTo (narrow .lastRetailer) n → encodeBy narrow n ≡ encodeBy wide n

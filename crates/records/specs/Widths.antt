@@ -8,7 +8,8 @@ use lib.ListN.{length, drop}
 use Rattle.lists.specs.Search.{Each}
 use Rattle.records.specs.declared.Record.{Record}
 use Rattle.records.specs.declared.Notice.{Notice}
-use Rattle.records.specs.declared.Reading.the-variants.{Malformed}
+use Rattle.records.specs.declared.Reading.{Reading}
+use Rattle.records.specs.declared.Reading.the-variants.{Malformed, Says}
 use Rattle.records.specs.Layout.{recordLength, wide, narrow, GoesInto, kindField, bytesOf, fieldOf}
 use Rattle.records.specs.Records.{kindDateChange, aRetailerBy, aRetailerOrNoneBy, aCounter, wellFormedBy, readingBy}
 use Rattle.records.specs.Laws.{Given, UpTo}
@@ -62,6 +63,14 @@ SameFormed = (r : Record) → NamesUpTo (narrow .lastRetailer) r → wellFormedB
 -- Such bytes say the same by either layout; bytes of another length meet row 3 by both.
 abbrev pub SameReading : Type 0
 SameReading = (bytes : List ℕ) → (length bytes ≡ recordLength → NineDigits bytes) → readingBy narrow bytes ≡ readingBy wide bytes
+
+-- and what they say names no retailer above the narrow limit
+abbrev pub NamedUpTo : ℕ → Reading → Type 0
+NamedUpTo last Malformed = Unit {0}
+NamedUpTo last (Says r) = NamesUpTo last r
+
+abbrev pub SaysUpTo : Type 0
+SaysUpTo = (bytes : List ℕ) → (length bytes ≡ recordLength → NineDigits bytes) → NamedUpTo (narrow .lastRetailer) (readingBy wide bytes)
 
 -- ---- notices
 -- a notice to a retailer up to a number, or to the TDSP

@@ -18,7 +18,7 @@ use Rattle.premise.specs.Refusals.{number}
 use Rattle.premise.specs.OnePremise.{State, Given, step}
 use Rattle.book.specs.declared.Book.{Book}
 use Rattle.book.specs.Book.{filesOf, bookOf, fileFor, withFile}
-use Rattle.book.specs.Calls.{noticeBytes, callRows, premiseState, markedFiles, markedBook, Result, refusal, call, meetsRow6, callRowsWith}
+use Rattle.book.specs.Calls.{noticeBytes, callRows, premiseState, markedFiles, markedBook, Result, refusal, call, meetsRow6, callRowsBy}
 use Rattle.book.specs.Calls.{onDayMark, asOne}
 use Rattle.book.specs.Laws.{BookKept}
 use Rattle.demands.specs.Demand2.{PastRows1And2, OfAPremise, OfTheNextDay, OfAnotherDay, ShortBufferGets1, DamagedBookGets2}
@@ -35,12 +35,12 @@ use Rattle.demands.proofs.Demand1.{first-row-answers}
 
 -- ---- rows 1, 2, 3 and 6
 pub short-buffer-gets-1 : ShortBufferGets1
-unfolding callRowsWith number
+unfolding callRowsBy number
 short-buffer-gets-1 calendar b bytes before reply after p short =
     rw (first-row-answers calendar b bytes before reply after p, lt-ltb (length before) noticeBytes short) refl
 
 pub damaged-book-gets-2 : DamagedBookGets2
-unfolding callRowsWith number
+unfolding callRowsBy number
 damaged-book-gets-2 calendar b bytes before reply after p room damaged =
     rw (first-row-answers calendar b bytes before reply after p, le-ltb (length before) noticeBytes room, damaged) refl
 

@@ -12,8 +12,8 @@ use Rattle.days.specs.Days.{kindOfDay, isBusinessDay, switchDate}
 use Rattle.days.specs.Window.{businessDays, inWindow}
 use Rattle.lists.specs.Search.{Each}
 use Rattle.records.specs.Layout.{premiseField, fieldOf}
-use Rattle.records.specs.Records.{wellFormed, reading}
-use Rattle.records.specs.Notices.{encode, rows}
+use Rattle.records.specs.Records.{wellFormedBy, readingBy}
+use Rattle.records.specs.Notices.{encodeBy, rows}
 use Rattle.premise.specs.Orders.{places}
 use Rattle.premise.specs.Steps.{requestedDay, makeRoom, ordered, taken, onScheduled, onPermit, onUnexecutable, onRead, supplied, onCancel}
 use Rattle.premise.specs.Steps.{onReply, onOrder, onDateChange, onNamed, changed, agreed}
@@ -21,12 +21,12 @@ use Rattle.premise.specs.Clock.{reviewed, permitAwaited, cancelAwaited, ticked}
 use Rattle.premise.specs.Evaluation.{contends, switchOfDay, givesWay, sameDaySwitch, isDisplaced, dropOnSwitchDay, isOvertaken}
 use Rattle.premise.specs.Evaluation.{permitOvertaken, isDue, lossNotice, evaluation}
 use Rattle.premise.specs.FirstIn.{refuses, standsInWay, notFirstIn}
-use Rattle.premise.specs.WellKept.{orderKept, isBlank, fileKept, fileBlank}
+use Rattle.premise.specs.WellKept.{orderKeptBy, isBlank, fileKeptBy, fileBlank}
 use Rattle.premise.specs.Refusals.{number, premiseRows, orderRows}
 use Rattle.premise.specs.OnePremise.{marked, stepped, step, startState, runs, markedWith, stepWith, steppedWith}
 use Rattle.book.specs.declared.Book.{Book}
-use Rattle.book.specs.Book.{freshBook, bookOf, bookKept, fileFor, putIn, takenOut}
-use Rattle.book.specs.Calls.{noticeBytes, callRows, call, callRowsWith, callWith}
+use Rattle.book.specs.Book.{freshBook, bookOf, bookKeptBy, fileFor, putIn, takenOut}
+use Rattle.book.specs.Calls.{noticeBytes, callRows, call, callRowsBy, callBy}
 use Rattle.demands.specs.Demand3.{Made, Played, lastBook, Premise, records, withPremise, noticesFor, ruledNotices}
 use Rattle.demands.specs.Sample.{lent, made, plays}
 use Rattle.demands.specs.Tapes.{Plays, tapeOf, ownOf}
@@ -64,9 +64,9 @@ unfolding reviewed permitAwaited cancelAwaited ticked contends switchOfDay gives
     permitOvertaken isDue lossNotice evaluation refuses standsInWay notFirstIn markedWith steppedWith stepWith places number premiseRows
     orderRows
     requestedDay makeRoom ordered taken onScheduled onPermit onUnexecutable onRead supplied onCancel onReply onOrder onDateChange onNamed
-    changed agreed orderKept isBlank fileKept fileBlank fieldOf encode wellFormed reading kindOfDay isBusinessDay switchDate businessDays
+    changed agreed orderKeptBy isBlank fileKeptBy fileBlank fieldOf encodeBy wellFormedBy readingBy kindOfDay isBusinessDay switchDate businessDays
     inWindow
-    bookOf bookKept fileFor putIn takenOut callRowsWith callWith lent made plays create7 create5 switch7 switch5 scheduled7 scheduled5 mark
+    bookOf bookKeptBy fileFor putIn takenOut callRowsBy callBy lent made plays create7 create5 switch7 switch5 scheduled7 scheduled5 mark
     retire6 oneByte notices7 notices5 tape tape₂ tape₃
 computed = record {
   first = record { short = record { real = refl; few = omega arith }; numbers = refl };
@@ -163,7 +163,7 @@ record AllMarked (premise : ℕ) : Type 0 where
   third : Marked premise tape₃ (marks₃ (eqb 7 premise) (eqb 5 premise) (eqb 6 premise))
 
 marked-all : (premise : ℕ) → AllMarked premise
-unfolding reading wellFormed fieldOf create7 create5 switch7 switch5 scheduled7 scheduled5 mark retire6 oneByte tape tape₂ tape₃
+unfolding readingBy wellFormedBy fieldOf create7 create5 switch7 switch5 scheduled7 scheduled5 mark retire6 oneByte tape tape₂ tape₃
 marked-all premise = record {
   first = (refl, (refl, (refl, (refl, (refl, (refl, (refl, (refl, (refl, (refl, tt))))))))));
   second = (refl, (refl, (refl, (refl, (refl, (refl, (refl, (refl, (refl, (refl, tt))))))))));

@@ -5,10 +5,12 @@ pub mod CallsInRow
 pub mod Demand1
 pub mod Demand2
 pub mod Demand3
+pub mod EitherWidth
 pub mod Fleet
 pub mod LastDay
 pub mod OnWay
 pub mod OneCall
+pub mod Outcomes
 pub mod Picks
 pub mod Rearranged
 pub mod Sample

@@ -9,8 +9,8 @@ use borrow.Author.Tests.{eqb-true}
 use Rattle.days.specs.Days.{kindOfDay, isBusinessDay, switchDate}
 use Rattle.days.specs.Window.{businessDays, inWindow}
 use Rattle.records.specs.Layout.{fieldOf}
-use Rattle.records.specs.Records.{wellFormed, reading}
-use Rattle.records.specs.Notices.{encode}
+use Rattle.records.specs.Records.{wellFormedBy, readingBy}
+use Rattle.records.specs.Notices.{encodeBy}
 use Rattle.premise.specs.Orders.{places}
 use Rattle.premise.specs.Steps.{requestedDay, makeRoom, ordered, taken, onScheduled, onPermit, onUnexecutable, onRead, supplied, onCancel}
 use Rattle.premise.specs.Steps.{onReply, onOrder, onDateChange, onNamed, changed, agreed}
@@ -18,11 +18,11 @@ use Rattle.premise.specs.Clock.{reviewed, permitAwaited, cancelAwaited, ticked}
 use Rattle.premise.specs.Evaluation.{contends, switchOfDay, givesWay, sameDaySwitch, isDisplaced, dropOnSwitchDay, isOvertaken}
 use Rattle.premise.specs.Evaluation.{permitOvertaken, isDue, lossNotice, evaluation}
 use Rattle.premise.specs.FirstIn.{refuses, standsInWay, notFirstIn}
-use Rattle.premise.specs.WellKept.{orderKept, isBlank, fileKept, fileBlank}
+use Rattle.premise.specs.WellKept.{orderKeptBy, isBlank, fileKeptBy, fileBlank}
 use Rattle.premise.specs.Refusals.{number, premiseRows, orderRows}
 use Rattle.premise.specs.OnePremise.{marked, stepped, step, markedWith, stepWith, steppedWith}
-use Rattle.book.specs.Book.{bookOf, bookKept, fileFor, putIn, takenOut}
-use Rattle.book.specs.Calls.{callRows, call, callRowsWith, callWith}
+use Rattle.book.specs.Book.{bookOf, bookKeptBy, fileFor, putIn, takenOut}
+use Rattle.book.specs.Calls.{callRows, call, callRowsBy, callBy}
 use Rattle.demands.specs.Demand3.{SameBooks}
 use Rattle.demands.specs.Tapes.{ownOf}
 use Rattle.demands.proofs.Demand3.{demand-3}
@@ -38,9 +38,9 @@ unfolding reviewed permitAwaited cancelAwaited ticked contends switchOfDay gives
     permitOvertaken isDue lossNotice evaluation refuses standsInWay notFirstIn markedWith steppedWith stepWith places number premiseRows
     orderRows
     requestedDay makeRoom ordered taken onScheduled onPermit onUnexecutable onRead supplied onCancel onReply onOrder onDateChange onNamed
-    changed agreed orderKept isBlank fileKept fileBlank fieldOf encode wellFormed reading kindOfDay isBusinessDay switchDate businessDays
+    changed agreed orderKeptBy isBlank fileKeptBy fileBlank fieldOf encodeBy wellFormedBy readingBy kindOfDay isBusinessDay switchDate businessDays
     inWindow
-    bookOf bookKept fileFor putIn takenOut callRowsWith callWith lent made plays create7 create5 order7 order5 change5 establish7 scheduled7
+    bookOf bookKeptBy fileFor putIn takenOut callRowsBy callBy lent made plays create7 create5 order7 order5 change5 establish7 scheduled7
     scheduled5 mark1 malformed calendar tape sample shuffled again ordered7 agreed7 dated7 losing7 ordered5 changed5 dated5 losing5 buffers
 comes = record {
   answers7 = refl;
@@ -65,7 +65,7 @@ record BothMarked (premise : ℕ) : Type 0 where
   second : Marked premise shuffled (marks₂ (eqb 7 premise) (eqb 5 premise))
 
 marked-both : (premise : ℕ) → BothMarked premise
-unfolding reading wellFormed fieldOf create7 create5 order7 order5 change5 establish7 scheduled7 scheduled5 mark1 malformed tape shuffled
+unfolding readingBy wellFormedBy fieldOf create7 create5 order7 order5 change5 establish7 scheduled7 scheduled5 mark1 malformed tape shuffled
 marked-both premise = record {
   first = (refl, (refl, (refl, (refl, (refl, (refl, (refl, (refl, (refl, (refl, (refl, (refl, (refl, tt)))))))))))));
   second = (refl, (refl, (refl, (refl, (refl, (refl, (refl, (refl, (refl, (refl, (refl, (refl, (refl, (refl, tt))))))))))))));

@@ -22,7 +22,7 @@ use Rattle.premise_laws.proofs.KeptPasses.{mark-keeps-shares}
 use Rattle.premise_laws.proofs.KeptSteps.{step-keeps-shares}
 use Rattle.book.specs.declared.Book.{Book}
 use Rattle.book.specs.Book.{filesOf, freshBook, fileFor, withFile}
-use Rattle.book.specs.Calls.{recordRows, callRows, premiseState, markedFiles, call, callRowsWith}
+use Rattle.book.specs.Calls.{recordRows, callRows, premiseState, markedFiles, call, callRowsBy}
 use Rattle.book.proofs.Files.{found-each}
 use Rattle.book.proofs.SameFiles.{with-each}
 use Rattle.book.proofs.Kept.{holds-its-files, book-kept-means}
@@ -72,7 +72,7 @@ no-retailer-fills calendar start ms p retailer =
 rows-from-26 : (calendar : List ℕ) (b : Book) (bytes lent : List ℕ) (r : Record) → reading bytes ≡ Says r
     → fromRow 26 (callRows calendar b bytes lent)
     ≡ fromRow 26 (fileRows calendar (b .today) (fileFor (r .premise) (filesOf b)) r)
-unfolding callRowsWith number
+unfolding callRowsBy number
 rows-from-26 calendar b bytes lent r e =
     let file : Option File = fileFor (r .premise) (filesOf b) in
     ap (λ (d : Reading). fromRow 26 (recordRows calendar b d)) e

@@ -7,8 +7,8 @@ use Rattle.lists.specs.Search.{Each}
 use Rattle.days.specs.Days.{kindOfDay, isBusinessDay, switchDate}
 use Rattle.days.specs.Window.{businessDays, inWindow}
 use Rattle.records.specs.Layout.{fieldOf}
-use Rattle.records.specs.Records.{wellFormed, reading}
-use Rattle.records.specs.Notices.{encode}
+use Rattle.records.specs.Records.{wellFormedBy, readingBy}
+use Rattle.records.specs.Notices.{encodeBy}
 use Rattle.premise.specs.declared.File.{File}
 use Rattle.premise.specs.Orders.{mostOfOne, openOf, held, places}
 use Rattle.premise.specs.Steps.{requestedDay, makeRoom, ordered, taken, onScheduled, onPermit, onUnexecutable, onRead, supplied, onCancel}
@@ -17,11 +17,11 @@ use Rattle.premise.specs.Clock.{reviewed, permitAwaited, cancelAwaited, ticked}
 use Rattle.premise.specs.Evaluation.{contends, switchOfDay, givesWay, sameDaySwitch, isDisplaced, dropOnSwitchDay, isOvertaken}
 use Rattle.premise.specs.Evaluation.{permitOvertaken, isDue, lossNotice, evaluation}
 use Rattle.premise.specs.FirstIn.{refuses, standsInWay, notFirstIn}
-use Rattle.premise.specs.WellKept.{orderKept, isBlank, fileKept, fileBlank}
+use Rattle.premise.specs.WellKept.{orderKeptBy, isBlank, fileKeptBy, fileBlank}
 use Rattle.premise.specs.Refusals.{number, premiseRows, orderRows}
 use Rattle.premise.specs.OnePremise.{marked, stepped, step, markedWith, stepWith, steppedWith}
-use Rattle.book.specs.Book.{bookOf, bookKept, filesOf, freshBook, fileFor, putIn, takenOut}
-use Rattle.book.specs.Calls.{callRows, call, callRowsWith, callWith}
+use Rattle.book.specs.Book.{bookOf, bookKeptBy, filesOf, freshBook, fileFor, putIn, takenOut}
+use Rattle.book.specs.Calls.{callRows, call, callRowsBy, callBy}
 use Rattle.demands.specs.Demand3.{Made, lastBook}
 use Rattle.demands.specs.Sample.{lent, made, plays}
 use Rattle.demands.specs.LastDay.{create7}
@@ -34,9 +34,9 @@ unfolding reviewed permitAwaited cancelAwaited ticked contends switchOfDay gives
     permitOvertaken isDue lossNotice evaluation refuses standsInWay notFirstIn markedWith steppedWith stepWith places number premiseRows
     orderRows
     requestedDay makeRoom ordered taken onScheduled onPermit onUnexecutable onRead supplied onCancel onReply onOrder onDateChange onNamed
-    changed agreed orderKept isBlank fileKept fileBlank fieldOf encode wellFormed reading kindOfDay isBusinessDay switchDate businessDays
+    changed agreed orderKeptBy isBlank fileKeptBy fileBlank fieldOf encodeBy wellFormedBy readingBy kindOfDay isBusinessDay switchDate businessDays
     inWindow
-    bookOf bookKept fileFor putIn takenOut callRowsWith callWith lent made plays create7 dropOf beginning tape sample third dropped file7
+    bookOf bookKeptBy fileFor putIn takenOut callRowsBy callBy lent made plays create7 dropOf beginning tape sample third dropped file7
     found
 comes = record {
   answered = refl;

@@ -2,7 +2,7 @@
 -- only such files if what its bytes say is no create with a detail. Assumes nothing.
 use Prim.Native.Nat.{ℕ, min}
 use mathlib.Core.Path.{_≡_, refl, ap, ap₂, sym, subst, _∙_}
-use mathlib.Core.List.{List, [], _∷_, _++_, map}
+use mathlib.Core.List.{List, [], _∷_, _++_}
 use mathlib.Core.Option.{Option, none, some}
 use mathlib.Core.Bool.{Bool, true, false, cond, not, _&&_}
 use lib.Dec.{eqb, ltb}
@@ -15,6 +15,7 @@ use Rattle.records.specs.declared.Record.{Record}
 use Rattle.records.specs.declared.Notice.{Notice}
 use Rattle.records.specs.declared.Reading.{Reading}
 use Rattle.records.specs.declared.Reading.the-variants.{Malformed, Says}
+use Rattle.records.specs.Layout.{wide}
 use Rattle.records.specs.Records.{reading, kindCreate, kindDayMark}
 use Rattle.premise.specs.declared.File.{File}
 use Rattle.premise.specs.declared.Answer.the-variants.{Accepted, ShortBuffer, NotWellKept, MalformedRecord, BookFull}
@@ -29,14 +30,14 @@ use Rattle.premise_laws.proofs.Windows.{step-leaves-width, create-gives-width, 
 use Rattle.premise_laws.proofs.Windows.{mark-of-width}
 use Rattle.book.specs.declared.Book.{Book}
 use Rattle.book.specs.Book.{mostFiles, filesOf, bookOf, freshBook, bookKept, fileFor, withFile}
-use Rattle.book.specs.Calls.{Result, recordRowsWith, callRowsWith, markedFilesWith, markedNoticesWith, premiseState, onReadingWith, refusal}
-use Rattle.book.specs.Calls.{noticeBytes, callRows, markedFiles, markedBook, onPremise, onReading, callWith, call}
+use Rattle.book.specs.Calls.{Result, recordRowsWith, callRowsBy, callRowsWith, markedFilesWith, markedNoticesWith, premiseState, onReadingWith, refusal}
+use Rattle.book.specs.Calls.{noticeBytes, callRows, markedFiles, markedBook, onPremise, onReading, callBy, callWith, call}
 use Rattle.book.proofs.Files.{found-each}
 use Rattle.book.proofs.SameFiles.{with-each}
 use Rattle.book.proofs.Kept.{holds-its-files}
-use Rattle.demands.specs.Demand3.{Made, Played}
-use Rattle.demands.specs.WindowOfTwo.{Outcome, outcomeOf, outcomeWith, ToMake, outcomesWith, NoDetail, NoCreateHasDetail}
-use Rattle.demands.specs.WindowOfTwo.{WindowOfTwo, returned, PromisedIsOutcome, asked, MadeAsOfTwo}
+use Rattle.demands.specs.Outcomes.{Outcome, ToMake, outcomeOf, asked}
+use Rattle.demands.specs.WindowOfTwo.{outcomeWith, outcomesWith, NoDetail, NoCreateHasDetail, WindowOfTwo, MadeAsOfTwo}
+use Rattle.demands.proofs.Outcomes.{played-is-outcomes}
 
 -- every file has a window of 2
 abbrev AllTwo : List File → Type 0
@@ -85,13 +86,13 @@ module _ (calendar : List ℕ) where
 
     table-same : (bytes lent : List ℕ)
         → callRowsWith keptWidth calendar b bytes lent ≡ callRowsWith (always windowWidth) calendar b bytes lent
-    unfolding callRowsWith
+    unfolding callRowsBy
     table-same bytes lent =
         ap (λ (rs : List Row). row ShortBuffer (ltb (length lent) noticeBytes) ∷ row NotWellKept (not (bookKept b)) ∷ rs)
         (rows-same (reading bytes))
 
     call-same : (bytes lent : List ℕ) → callWith keptWidth calendar b bytes lent ≡ callWith (always windowWidth) calendar b bytes lent
-    unfolding callWith
+    unfolding callBy
     call-same bytes lent =
         ap₂ (λ (rs : List Row) (done : Result). cond (eqb (number (firstRow rs)) 0) done (refusal (firstRow rs) b))
         (table-same bytes lent) (reading-same (reading bytes))
@@ -116,7 +117,7 @@ module _ (calendar : List ℕ) where
 
   call-left : (b : Book) (bytes lent : List ℕ) → AllTwo (filesOf b) → NoDetail (reading bytes)
       → AllTwo (filesOf (call calendar b bytes lent .book))
-  unfolding callWith
+  unfolding callBy
   call-left b bytes lent u n =
       by-test (λ (x : Result). AllTwo (filesOf (x .book))) (eqb (number (firstRow (callRows calendar b bytes lent))) 0)
       (onReading calendar b (reading bytes)) _ (λ t. go (reading bytes) n) (λ t. u)
@@ -138,29 +139,12 @@ module _ (calendar : List ℕ) where
   outcomes-same b (c ∷ cs) u n =
       ap (λ (os : List Outcome). outcomeWith keptWidth calendar b (c .bytes) (c .lent) ∷ os)
       (outcomes-same (call calendar b (c .bytes) (c .lent) .book) cs (call-left b (c .bytes) (c .lent) u (n .0)) (n .1))
-      ∙ ap (λ (x : Result). outcomeOf x (c .lent) ∷ outcomesWith (always windowWidth) calendar (x .book) cs)
+      ∙ ap (λ (x : Result). outcomeOf wide x (c .lent) ∷ outcomesWith (always windowWidth) calendar (x .book) cs)
       (call-same b u (c .bytes) (c .lent))
 
 pub window-of-two : WindowOfTwo
 window-of-two calendar start cs n = outcomes-same calendar (freshBook start) cs (rw (holds-its-files (min start lastDay) []) tt) n
 
 -- ---- of calls that were made
-pub promised-is-outcome : PromisedIsOutcome
-promised-is-outcome calendar b bytes before r after p = λ i. record {
-  answer = number (p .answer i);
-  sent = p .notices .count i;
-  book = p .book i;
-  after = p .notices .bytes i;
-}
-
-played-outcomes : (calendar : List ℕ) (b : Book) (ms : List Made) → Played calendar b ms
-    → map (λ (m : Made). returned (m .reply) (m .after)) ms ≡ outcomesWith keptWidth calendar b (asked ms)
-played-outcomes calendar b [] p = refl
-played-outcomes calendar b (m ∷ ms) p =
-    ap₂ (λ (x : Outcome) (xs : List Outcome). x ∷ xs)
-    (promised-is-outcome calendar b (m .bytes) (m .lent) (m .reply) (m .after) (p .0))
-    (played-outcomes calendar (m .reply .book) ms (p .1)
-    ∙ ap (λ (left : Book). outcomesWith keptWidth calendar left (asked ms)) (p .0 .book))
-
 pub made-as-of-two : MadeAsOfTwo
-made-as-of-two calendar start ms p n = played-outcomes calendar (freshBook start) ms p ∙ window-of-two calendar start (asked ms) n
+made-as-of-two calendar start ms p n = played-is-outcomes wide calendar (freshBook start) ms p ∙ window-of-two calendar start (asked ms) n

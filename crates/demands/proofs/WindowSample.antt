@@ -8,8 +8,8 @@ use lib.ListN.{length, getD, replicate}
 use Rattle.days.specs.Days.{kindOfDay, isBusinessDay, switchDate}
 use Rattle.days.specs.Window.{businessDays, inWindow}
 use Rattle.records.specs.Layout.{fieldOf}
-use Rattle.records.specs.Records.{wellFormed, reading}
-use Rattle.records.specs.Notices.{encode}
+use Rattle.records.specs.Records.{wellFormedBy, readingBy}
+use Rattle.records.specs.Notices.{encodeBy}
 use Rattle.premise.specs.Orders.{places, keptWidth, always}
 use Rattle.premise.specs.Steps.{requestedDay, makeRoom, ordered, taken, onScheduled, onPermit, onUnexecutable, onRead, supplied, onCancel}
 use Rattle.premise.specs.Steps.{onReply, onOrder, onDateChange, onNamed, agreed, changed}
@@ -17,11 +17,11 @@ use Rattle.premise.specs.Clock.{reviewed, permitAwaited, cancelAwaited, ticked}
 use Rattle.premise.specs.Evaluation.{contends, switchOfDay, givesWay, sameDaySwitch, isDisplaced, dropOnSwitchDay, isOvertaken}
 use Rattle.premise.specs.Evaluation.{permitOvertaken, isDue, lossNotice, evaluation}
 use Rattle.premise.specs.FirstIn.{refuses, standsInWay, notFirstIn}
-use Rattle.premise.specs.WellKept.{orderKept, isBlank, fileKept, fileBlank}
+use Rattle.premise.specs.WellKept.{orderKeptBy, isBlank, fileKeptBy, fileBlank}
 use Rattle.premise.specs.Refusals.{number, premiseRows, orderRows}
 use Rattle.premise.specs.OnePremise.{markedWith, steppedWith, stepWith}
-use Rattle.book.specs.Book.{bookOf, bookKept, fileFor, putIn, takenOut}
-use Rattle.book.specs.Calls.{callRowsWith, callWith}
+use Rattle.book.specs.Book.{bookOf, bookKeptBy, fileFor, putIn, takenOut}
+use Rattle.book.specs.Calls.{callRowsBy, callBy}
 use Rattle.demands.specs.Sample.{lent}
 use Rattle.demands.specs.LastDay.{oneByte}
 use Rattle.demands.specs.WindowSample.{asking, create, switch, scheduled, mark, shortMark, oneAlone, withDetail0, withDetail5}
@@ -32,8 +32,8 @@ pub comes : Comes
 unfolding reviewed permitAwaited cancelAwaited ticked contends switchOfDay givesWay sameDaySwitch isDisplaced dropOnSwitchDay isOvertaken
     permitOvertaken isDue lossNotice evaluation refuses standsInWay notFirstIn markedWith steppedWith stepWith places number premiseRows
     orderRows requestedDay makeRoom ordered taken onScheduled onPermit onUnexecutable onRead supplied onCancel onReply onOrder onDateChange
-    onNamed agreed changed orderKept isBlank fileKept fileBlank fieldOf encode wellFormed reading kindOfDay isBusinessDay switchDate
-    businessDays inWindow bookOf bookKept fileFor putIn takenOut callRowsWith callWith lent oneByte asking create switch scheduled mark
+    onNamed agreed changed orderKeptBy isBlank fileKeptBy fileBlank fieldOf encodeBy wellFormedBy readingBy kindOfDay isBusinessDay switchDate
+    businessDays inWindow bookOf bookKeptBy fileFor putIn takenOut callRowsBy callBy lent oneByte asking create switch scheduled mark
     shortMark oneAlone withDetail0 withDetail5 outcomes answers told announced dated losing
 comes = record {
   no-detail = (λ e. refl, (λ e. absurd (false≢true e), (λ e. refl, (tt, (tt, (λ e. refl, (λ e. refl, tt)))))));

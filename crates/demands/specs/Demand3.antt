@@ -9,7 +9,7 @@ use lib.ListN.{length}
 use Rattle.records.specs.declared.Record.{Record}
 use Rattle.records.specs.declared.Reading.{Reading}
 use Rattle.records.specs.declared.Reading.the-variants.{Malformed, Says}
-use Rattle.records.specs.Layout.{Bytes, premiseField, fieldOf}
+use Rattle.records.specs.Layout.{Layout, wide, Bytes, premiseField, fieldOf}
 use Rattle.records.specs.Records.{reading, kindDayMark}
 use Rattle.records.specs.Notices.{encode, rows}
 use Rattle.premise.specs.Steps.{is}
@@ -19,7 +19,7 @@ use Rattle.book.specs.declared.Book.{Book}
 use Rattle.book.specs.declared.Reply.{Reply}
 use Rattle.book.specs.Book.{filesOf, freshBook, fileFor}
 use Rattle.book.specs.Calls.{noticeBytes, meetsRow6}
-use Rattle.book.specs.Promise.{Promised}
+use Rattle.book.specs.Promise.{PromisedBy}
 
 -- ---- calls that were made
 -- one call: the record's bytes, the buffer that it was lent, what it returned, and the buffer on return
@@ -29,10 +29,15 @@ pub record Made : Type 0 where
   pub reply : Reply
   pub after : List ℕ
 
--- each call keeps the record call's promise, and gets the book that the one before it returned
+-- each call keeps the record call's promise, by a layout, and gets the book that the one before it returned
+abbrev pub PlayedBy : Layout → List ℕ → Book → List Made → Type 0
+PlayedBy layout calendar b [] = Unit {0}
+PlayedBy layout calendar b (m ∷ ms) =
+    PromisedBy layout calendar b (m .bytes) (m .lent) (m .reply) (m .after) × PlayedBy layout calendar (m .reply .book) ms
+
+-- by the layout in force
 abbrev pub Played : List ℕ → Book → List Made → Type 0
-Played calendar b [] = Unit {0}
-Played calendar b (m ∷ ms) = Promised calendar b (m .bytes) (m .lent) (m .reply) (m .after) × Played calendar (m .reply .book) ms
+Played = PlayedBy wide
 
 -- the book that the last call returned
 abbrev pub lastBook : Book → List Made → Book

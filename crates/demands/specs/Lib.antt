@@ -3,8 +3,10 @@ pub mod CallsInRow
 pub mod Demand1
 pub mod Demand2
 pub mod Demand3
+pub mod EitherWidth
 pub mod Fleet
 pub mod LastDay
+pub mod Outcomes
 pub mod Rearranged
 pub mod Sample
 pub mod Shares

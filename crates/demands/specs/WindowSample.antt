@@ -10,7 +10,8 @@ use Rattle.premise.specs.Orders.{keptWidth, always}
 use Rattle.book.specs.Book.{freshBook}
 use Rattle.demands.specs.Sample.{lent}
 use Rattle.demands.specs.LastDay.{plain, oneByte}
-use Rattle.demands.specs.WindowOfTwo.{Outcome, ToMake, outcomesWith, NoCreateHasDetail}
+use Rattle.demands.specs.Outcomes.{Outcome, ToMake}
+use Rattle.demands.specs.WindowOfTwo.{outcomesWith, NoCreateHasDetail}
 
 -- a record with the shortest buffer that is taken
 unfoldable pub asking : List ℕ → ToMake

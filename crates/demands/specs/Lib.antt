@@ -12,5 +12,6 @@ pub mod Sample
 pub mod Shares
 pub mod SharesSample
 pub mod Tapes
+pub mod WidthSample
 pub mod WindowOfTwo
 pub mod WindowSample

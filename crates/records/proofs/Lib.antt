@@ -4,6 +4,7 @@ pub mod Decode
 pub mod Emits
 pub mod Fields
 pub mod Formed
+pub mod LongRetailers
 pub mod Notices
 pub mod Ranges
 pub mod Readings

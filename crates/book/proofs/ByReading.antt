@@ -12,6 +12,7 @@ use borrow.Author.Tests.{eqb-true, ne-eqb}
 use Rattle.lists.specs.Search.{Each}
 use Rattle.records.specs.declared.Reading.{Reading}
 use Rattle.records.specs.declared.Reading.the-variants.{Says}
+use Rattle.records.specs.Layout.{wide}
 use Rattle.records.specs.Records.{reading, kindCreate, kindDayMark}
 use Rattle.premise.specs.declared.File.{File}
 use Rattle.premise.specs.declared.Answer.{Answer}
@@ -27,12 +28,12 @@ use Rattle.book.specs.Calls.{recordRows, markedFiles, meetsRow6, onDayMa
 use Rattle.book.specs.Laws.{numbersOf, CallMalformed, CallNotHeld, CallOnMark, MarkKeepsNumbers}
 use Rattle.book.proofs.Kept.{book-kept-means}
 use Rattle.book.proofs.Rows.{refusing, record-decides}
+use Rattle.book.proofs.RowsInOrder.{malformed-by}
 use Rattle.book.proofs.Marks.{marked-one}
 use Rattle.book.proofs.Acts.{decided, refuses, acted, call-acts}
 
 pub call-malformed : CallMalformed
-call-malformed calendar b bytes lent well room e =
-    call-acts calendar b bytes lent (book-kept-means b .0 well) room (ap (meetsRow6 b) e) ∙ ap (acted calendar b) e
+call-malformed calendar b bytes lent well room e = malformed-by wide calendar b bytes lent room well e
 
 -- ---- a premise that is not held
 pub call-not-held : CallNotHeld

@@ -1,13 +1,15 @@
--- The table of a call in its order: the rows' numbers, and rows 1 and 2 before all that come after them. Assumes nothing.
+-- The table of a call in its order: the rows' numbers, rows 1 and 2 before all that come after them, and rows 2 and 3 by any layout. Assumes
+-- nothing.
 use Prim.Native.Nat.{ℕ}
 use mathlib.Core.Path.{_≡_, refl, sym, ap, ap₂, _∙_}
 use mathlib.Core.List.{List, [], _∷_, _++_, map-append}
-use mathlib.Core.Bool.{Bool, not, _&&_}
-use lib.Dec.{eqb}
+use mathlib.Core.Bool.{Bool, true, false, cond, not, _&&_}
+use lib.Dec.{eqb, ltb}
 use lib.ListN.{length, getD}
-use borrow.Author.Tests.{lt-ltb, le-ltb}
+use borrow.Author.Tests.{ne-eqb, lt-ltb, le-ltb}
 use Rattle.records.specs.declared.Reading.{Reading}
-use Rattle.records.specs.Records.{reading, kindCreate}
+use Rattle.records.specs.Layout.{wide}
+use Rattle.records.specs.Records.{readingBy, reading, kindCreate}
 use Rattle.premise.specs.declared.Answer.{Answer}
 use Rattle.premise.specs.declared.Answer.the-variants.{ShortBuffer, NotWellKept, MalformedRecord, BookFull}
 use Rattle.premise.specs.Steps.{is}
@@ -17,8 +19,8 @@ use Rattle.premise.specs.Laws.{rowNumbers}
 use Rattle.premise.proofs.Table.{premise-row-numbers, order-row-numbers, book-answers}
 use Rattle.book.specs.declared.Book.{Book}
 use Rattle.book.specs.Book.{mostFiles, filesOf, bookKept, fileFor}
-use Rattle.book.specs.Calls.{noticeBytes, recordRows, callRows, refusal, call, callRowsBy}
-use Rattle.book.specs.Laws.{RowsOfRecord, RowsOfMalformed, CallShort, CallNotKept}
+use Rattle.book.specs.Calls.{noticeBytes, recordRows, callRowsBy, callRows, Result, onReading, refusal, callBy, call}
+use Rattle.book.specs.Laws.{RowsOfRecord, RowsOfMalformed, CallShort, CallNotKept, NotKeptBy, MalformedBy, CallByEither}
 use Rattle.book.proofs.Rows.{refusing}
 use Rattle.book.proofs.CallAnswer.{call-refused}
 
@@ -72,9 +74,29 @@ call-short calendar b bytes lent h =
     (ap (λ (short : Bool). firstRow (row ShortBuffer short ∷ row NotWellKept (not (bookKept b)) ∷ recordRows calendar b (reading bytes)))
     (lt-ltb (length lent) noticeBytes h))
 
+-- ---- rows 2 and 3, by any layout
+-- a call by what rows 1 and 2 ask and what its bytes say
+by-rows : List ℕ → Book → Bool → Bool → Reading → Result
+by-rows calendar b short kept d =
+    let rows : List Row = row ShortBuffer short ∷ row NotWellKept (not kept) ∷ recordRows calendar b d in
+    cond (eqb (number (firstRow rows)) 0) (onReading calendar b d) (refusal (firstRow rows) b)
+
+pub not-kept-by : NotKeptBy
+unfolding callBy callRowsBy by-rows
+not-kept-by layout calendar b bytes lent h k =
+    ap₂ (λ (short kept : Bool). by-rows calendar b short kept (readingBy layout bytes)) (le-ltb (length lent) noticeBytes h) k
+    ∙ rw (ne-eqb (number NotWellKept) 0 (refusing NotWellKept refl)) refl
+
+pub malformed-by : MalformedBy
+unfolding callBy callRowsBy by-rows
+malformed-by layout calendar b bytes lent h k e =
+    ap₂ (λ (short kept : Bool). by-rows calendar b short kept (readingBy layout bytes)) (le-ltb (length lent) noticeBytes h) k
+    ∙ ap (by-rows calendar b false true) e
+    ∙ rw (ne-eqb (number MalformedRecord) 0 (refusing MalformedRecord refl)) refl
+
+pub call-by-either : CallByEither
+unfolding callBy callRowsBy by-rows
+call-by-either one other calendar b bytes lent kept says = ap₂ (by-rows calendar b (ltb (length lent) noticeBytes)) kept says
+
 pub call-not-kept : CallNotKept
-unfolding callRowsBy
-call-not-kept calendar b bytes lent h k =
-    refused-by calendar b bytes lent NotWellKept (refusing NotWellKept refl)
-    (ap₂ (λ (short kept : Bool). firstRow (row ShortBuffer short ∷ row NotWellKept (not kept) ∷ recordRows calendar b (reading bytes)))
-    (le-ltb (length lent) noticeBytes h) k)
+call-not-kept calendar b bytes lent h k = not-kept-by wide calendar b bytes lent h k

@@ -10,10 +10,11 @@ use Rattle.lists.specs.Search.{Each}
 use Rattle.days.specs.Days.{lastDay}
 use Rattle.records.specs.declared.Record.{Record}
 use Rattle.records.specs.declared.Reading.the-variants.{Malformed, Says}
-use Rattle.records.specs.Layout.{recordLength, wide, narrow}
-use Rattle.records.specs.Records.{kindDayMark, wellFormed, reading}
+use Rattle.records.specs.Layout.{Layout, recordLength, wide, narrow}
+use Rattle.records.specs.Records.{kindDayMark, wellFormed, readingBy, reading}
 use Rattle.premise.specs.declared.File.{File}
 use Rattle.premise.specs.declared.Answer.the-variants.{ShortBuffer, NotWellKept, MalformedRecord, NoSuchPremise}
+use Rattle.premise.specs.Orders.{keptWidth}
 use Rattle.premise.specs.Steps.{is}
 use Rattle.premise.specs.Refusals.{number, needsPremise}
 use Rattle.premise.specs.OnePremise.{Given, step, givenOn}
@@ -25,7 +26,7 @@ use Rattle.premise_laws.specs.Retailers.{RetailersUpTo}
 use Rattle.book.specs.declared.Book.{Book}
 use Rattle.book.specs.Book.{mostFiles, filesOf, bookOf, freshBook, risesFrom, bookKeptBy, bookKept, fileFor}
 use Rattle.book.specs.Calls.{noticeBytes, callRows, meetsRow6, markedFiles, markedNotices, premiseState, Result, onPremise, refusal}
-use Rattle.book.specs.Calls.{call, onDayMark}
+use Rattle.book.specs.Calls.{callBy, call, onDayMark}
 
 -- ---- well kept
 -- at most 64 files, and the places after them unused: what the functions on a book's places ask of it
@@ -98,6 +99,26 @@ abbrev pub CallNotKept : Type 0
 CallNotKept =
     (calendar : List ℕ) (b : Book) (bytes lent : List ℕ) → noticeBytes ≤ length lent → bookKept b ≡ false
     → call calendar b bytes lent ≡ refusal NotWellKept b
+
+-- Document 02, change 7: rows 2 and 3 go by the layout, whichever it is. With a long enough buffer a book that is not well kept by it gets
+-- 2, and on any other bytes that are malformed by it get 3.
+abbrev pub NotKeptBy : Type 0
+NotKeptBy =
+    (layout : Layout) (calendar : List ℕ) (b : Book) (bytes lent : List ℕ) → noticeBytes ≤ length lent → bookKeptBy layout b ≡ false
+    → callBy layout keptWidth calendar b bytes lent ≡ refusal NotWellKept b
+
+abbrev pub MalformedBy : Type 0
+MalformedBy =
+    (layout : Layout) (calendar : List ℕ) (b : Book) (bytes lent : List ℕ) → noticeBytes ≤ length lent → bookKeptBy layout b ≡ true
+    → readingBy layout bytes ≡ Malformed
+    → callBy layout keptWidth calendar b bytes lent ≡ refusal MalformedRecord b
+
+-- It goes by the layout in these two rows and in what the bytes say, and nowhere else.
+abbrev pub CallByEither : Type 0
+CallByEither =
+    (one other : Layout) (calendar : List ℕ) (b : Book) (bytes lent : List ℕ)
+    → bookKeptBy one b ≡ bookKeptBy other b → readingBy one bytes ≡ readingBy other bytes
+    → callBy one keptWidth calendar b bytes lent ≡ callBy other keptWidth calendar b bytes lent
 
 -- ---- a record on a premise that is held, by the place of its file
 -- a record that leaves its premise's file in the book, and a place that holds that file; `past` is what a read past the last place would

@@ -1,12 +1,13 @@
 -- Either field width: on a book without a retailer above the narrow limit a call by bytes without one is the same by either layout, since its
 -- bytes say the same and the book is well kept by both; and it leaves such a book and notices to no other retailer. Assumes nothing.
 use Prim.Native.Nat.{ℕ, _*_, min}
-use mathlib.Core.Path.{_≡_, refl, ap, ap₂, sym, subst, _∙_}
+use mathlib.Core.Path.{_≡_, refl, ap, ap₂, sym, subst, subst⁻¹, _∙_}
 use mathlib.Core.List.{List, [], _∷_, _++_}
 use mathlib.Core.Option.{Option}
-use mathlib.Core.Bool.{Bool, cond, not}
-use lib.Dec.{eqb, ltb}
+use mathlib.Core.Bool.{Bool, true, false}
+use lib.Dec.{eqb}
 use lib.ListN.{length, drop}
+use borrow.Author.Tests.{eqb-true, eqb-false}
 use Rattle.lists.specs.Search.{Each}
 use Rattle.lists.proofs.TestLaws.{by-test}
 use Rattle.lists.proofs.SearchLaws.{each-append}
@@ -16,27 +17,27 @@ use Rattle.records.specs.declared.Notice.{Notice}
 use Rattle.records.specs.declared.Reading.{Reading}
 use Rattle.records.specs.declared.Reading.the-variants.{Malformed, Says}
 use Rattle.records.specs.Layout.{recordLength, wide, narrow}
-use Rattle.records.specs.Records.{reading, kindDayMark}
-use Rattle.records.specs.Widths.{NineDigits, NamedUpTo, ToUpTo}
+use Rattle.records.specs.Records.{readingBy, reading, kindDayMark}
+use Rattle.records.specs.Widths.{NamedUpTo, ToUpTo}
+use Rattle.records.proofs.Readings.{other-length}
 use Rattle.records.proofs.Widths.{same-reading, says-up-to, same-notices}
 use Rattle.premise.specs.declared.File.{File}
-use Rattle.premise.specs.declared.Answer.the-variants.{ShortBuffer, NotWellKept}
 use Rattle.premise.specs.Orders.{keptWidth}
 use Rattle.premise.specs.Steps.{is}
-use Rattle.premise.specs.Refusals.{Row, row, number, firstRow}
+use Rattle.premise.specs.Refusals.{number, firstRow}
 use Rattle.premise.specs.OnePremise.{Given, givenOn, marked}
 use Rattle.premise_laws.specs.Laws.{Held}
 use Rattle.premise_laws.specs.Retailers.{RetailersUpTo, GivesUpTo}
 use Rattle.premise_laws.proofs.Retailers.{step-makes-no-retailer, mark-makes-no-retailer}
 use Rattle.book.specs.declared.Book.{Book}
 use Rattle.book.specs.Book.{filesOf, bookOf, freshBook, fileFor, withFile}
-use Rattle.book.specs.Calls.{noticeBytes, Result, recordRowsWith, callRowsBy, callRows, markedFiles, markedNotices, markedBook, premiseState}
-use Rattle.book.specs.Calls.{onPremise, onReadingWith, onReading, refusal, callBy, call}
+use Rattle.book.specs.Calls.{Result, callRows, markedFiles, markedNotices, markedBook, premiseState, onPremise, onReading, callBy, call}
 use Rattle.book.proofs.Files.{found-each}
 use Rattle.book.proofs.SameFiles.{with-each}
 use Rattle.book.proofs.Kept.{holds-its-files, book-kept-by-either}
+use Rattle.book.proofs.RowsInOrder.{call-by-either}
 use Rattle.demands.specs.Outcomes.{Outcome, ToMake, outcomeOf, outcomeBy, outcomesBy, asked}
-use Rattle.demands.specs.EitherWidth.{NoLongRetailer, EitherWidth, MadeAsNarrow, MadeWithEither}
+use Rattle.demands.specs.EitherWidth.{NineDigits, NoLongRetailer, EitherWidth, MadeAsNarrow, MadeWithEither}
 use Rattle.demands.proofs.Outcomes.{played-is-outcomes}
 
 -- no retailer above the narrow limit, in files and in notices
@@ -53,6 +54,25 @@ TellsNoneAbove ns = Each (ToUpTo last) ns
 abbrev Short : List ℕ → Type 0
 Short bytes = length bytes ≡ recordLength → NineDigits bytes
 
+-- they say the same by either layout, and name none
+record Agrees (bytes : List ℕ) : Type 0 where
+  pub same : readingBy narrow bytes ≡ reading bytes
+  pub names : NamedUpTo last (reading bytes)
+
+agrees : (bytes : List ℕ) → Short bytes → Agrees bytes
+agrees bytes short = go (eqb (length bytes) recordLength) refl
+  where
+    go : (b : Bool) → eqb (length bytes) recordLength ≡ b → Agrees bytes
+    go true e =
+        let nine = short (eqb-true (length bytes) recordLength e) in
+        record { same = same-reading bytes (nine .rest) (nine .retailer); names = says-up-to bytes (nine .rest) (nine .retailer) }
+    go false e =
+        let other = eqb-false (length bytes) recordLength e in
+        record {
+          same = other-length narrow bytes other ∙ sym (other-length wide bytes other);
+          names = subst⁻¹ (NamedUpTo last) (other-length wide bytes other) tt;
+        }
+
 -- what comes of a call has none
 record Stays (x : Result) : Type 0 where
   pub files : NoneAbove (filesOf (x .book))
@@ -60,16 +80,9 @@ record Stays (x : Result) : Type 0 where
 
 module _ (calendar : List ℕ) where
   -- ---- a call is the same by either layout ..
-  by-rows : Book → List ℕ → Bool → Reading → Result
-  by-rows b lent kept d =
-      let rows : List Row =
-      row ShortBuffer (ltb (length lent) noticeBytes) ∷ row NotWellKept (not kept) ∷ recordRowsWith keptWidth calendar b d in
-      cond (eqb (number (firstRow rows)) 0) (onReadingWith keptWidth calendar b d) (refusal (firstRow rows) b)
-
   call-same : (b : Book) → NoneAbove (filesOf b) → (bytes lent : List ℕ) → Short bytes
       → callBy narrow keptWidth calendar b bytes lent ≡ callBy wide keptWidth calendar b bytes lent
-  unfolding callBy callRowsBy by-rows
-  call-same b u bytes lent nine = ap₂ (by-rows b lent) (book-kept-by-either b u) (same-reading bytes nine)
+  call-same b u bytes lent nine = call-by-either narrow wide calendar b bytes lent (book-kept-by-either b u) (agrees bytes nine .same)
 
   -- ---- .. and makes no retailer
   files-left : (day : ℕ) (fs : List File) → NoneAbove fs → NoneAbove (markedFiles calendar day fs)
@@ -105,7 +118,7 @@ module _ (calendar : List ℕ) where
   unfolding callBy
   call-left b bytes lent u nine =
       by-test Stays (eqb (number (firstRow (callRows calendar b bytes lent))) 0) (onReading calendar b (reading bytes)) _
-      (λ t. reading-left b u (reading bytes) (says-up-to bytes nine)) (λ t. record { files = u; notices = tt })
+      (λ t. reading-left b u (reading bytes) (agrees bytes nine .names)) (λ t. record { files = u; notices = tt })
 
   -- ---- so its outcome is the same, the buffer's bytes with it
   outcome-same : (b : Book) (bytes lent : List ℕ) → NoneAbove (filesOf b) → Short bytes

@@ -1,20 +1,26 @@
 -- Document 02, change 7, its last sentence: "A tape whose records have zero in 20 to 23 and at most 999,999,999 in the retailer field plays
 -- from a fresh book to equal answers, field values in the book and notice bytes under the same rules and calendar with either field width,
 -- and that is to be shown for all such tapes, not tried on some." proofs/EitherWidth.antt proves it.
-use Prim.Native.Nat.{ℕ}
+use Prim.Native.Nat.{ℕ, _≤_}
 use mathlib.Core.Path.{_≡_}
 use mathlib.Core.List.{List}
 use lib.ListN.{length}
 use Rattle.lists.specs.Search.{Each}
-use Rattle.records.specs.Layout.{recordLength, wide, narrow}
-use Rattle.records.specs.Widths.{NineDigits}
+use Rattle.records.specs.Layout.{recordLength, wide, narrow, kindField, fieldOf}
+use Rattle.records.specs.Records.{kindDateChange}
 use Rattle.premise.specs.Orders.{keptWidth}
 use Rattle.book.specs.Book.{freshBook}
 use Rattle.demands.specs.Demand3.{Made, Played, PlayedBy}
 use Rattle.demands.specs.Outcomes.{ToMake, outcomesBy, allReturned, asked}
 
--- Every record, which is of 24 bytes, has zero in 20 to 23 and, unless it is a date change, at most 999,999,999 in 16 to 19. Bytes of another
--- length get 3 with either width and need no premise.
+-- ---- the premise
+-- A record's bytes with "zero in 20 to 23 and at most 999,999,999 in the retailer field". A date change has no retailer there: its counter, in
+-- 16 to 19, may be any.
+pub record NineDigits (bytes : List ℕ) : Type 0 where
+  pub rest : fieldOf (narrow .rest) bytes ≡ 0
+  pub retailer : (fieldOf kindField bytes ≡ kindDateChange → ⊥) → fieldOf (narrow .retailer) bytes ≤ 999999999
+
+-- Every record has. Bytes of another length than 24 get 3 with either width and need no premise.
 abbrev pub NoLongRetailer : List ToMake → Type 0
 NoLongRetailer cs = Each (λ (c : ToMake). length (c .bytes) ≡ recordLength → NineDigits (c .bytes)) cs
 

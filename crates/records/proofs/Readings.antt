@@ -12,17 +12,21 @@ use Rattle.records.specs.Layout.{Bytes, recordLength, kindField, detailF
 use Rattle.records.specs.Layout.{wide, fieldOf}
 use Rattle.records.specs.Records.{wellFormed, fieldsOf, readingBy, reading}
 use Rattle.records.specs.Laws.{InWidth, Said, SaidIn}
+use Rattle.records.specs.Widths.{OtherLength}
 use Rattle.records.proofs.Fields.{field-below}
+
+pub other-length : OtherLength
+unfolding readingBy
+other-length layout bytes h = simp (ne-eqb (length bytes) recordLength h)
 
 module _ (bytes : List ℕ) where
   -- nothing is left behind the wide field
-  nothing-left : fieldOf (wide .rest) bytes ≡ 0
+  pub nothing-left : fieldOf (wide .rest) bytes ≡ 0
   unfolding fieldOf
   nothing-left = refl
 
   pub reading-length : (length bytes ≡ recordLength → ⊥) → reading bytes ≡ Malformed
-  unfolding readingBy
-  reading-length h = simp (ne-eqb (length bytes) recordLength h)
+  reading-length h = other-length wide bytes h
 
   pub reading-unformed : wellFormed (fieldsOf bytes) ≡ false → reading bytes ≡ Malformed
   unfolding readingBy

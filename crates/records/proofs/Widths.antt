@@ -1,6 +1,6 @@
 -- Records and notices by either layout: the wide field is the narrow one and the four bytes behind it. Assumes nothing.
 use Prim.Native.Nat.{ℕ, _+_, _*_, _/_, _≤_}
-use mathlib.Core.Path.{_≡_, refl, sym, ap, ap₂, subst, _∙_}
+use mathlib.Core.Path.{_≡_, refl, sym, ap, ap₂, subst, subst⁻¹, _∙_}
 use mathlib.Core.List.{List, [], _∷_, _++_}
 use mathlib.Core.Bool.{Bool, true, false, cond, _&&_, and-false}
 use native.Mathlib.Omega.{arith}
@@ -12,15 +12,15 @@ use Rattle.records.specs.declared.Record.{Record}
 use Rattle.records.specs.declared.Notice.{Notice}
 use Rattle.records.specs.declared.Reading.{Reading}
 use Rattle.records.specs.declared.Reading.the-variants.{Malformed, Says}
-use Rattle.records.specs.Layout.{Layout, wide, narrow, recordLength, kindField, detailField, dayField, referenceField, premiseField}
+use Rattle.records.specs.Layout.{wide, narrow, recordLength, kindField, detailField, dayField, referenceField, premiseField}
 use Rattle.records.specs.Layout.{number, bytesOf, fieldOf}
 use Rattle.records.specs.Records.{kindDateChange, wellFormedBy, fieldsBy, readingBy}
 use Rattle.records.specs.Notices.{encodeBy}
 use Rattle.records.specs.Widths.{NarrowRetailers, NarrowRetailersOrNone, NarrowRest, NarrowNotice, NarrowCounter, ReadEight}
-use Rattle.records.specs.Widths.{BytesOfEight, NineDigits, SameFormed, SameReading, NamedUpTo, SaysUpTo, ToUpTo, SameNotices}
+use Rattle.records.specs.Widths.{BytesOfEight, NamesUpTo, SameFormed, SameReading, NamedUpTo, SaysUpTo, ToUpTo, SameNotices}
 use Rattle.records.specs.Laws.{SaidIn}
 use Rattle.records.proofs.Ranges.{tested-up-to}
-use Rattle.records.proofs.Readings.{reading-said}
+use Rattle.records.proofs.Readings.{nothing-left, reading-said}
 
 -- ---- the narrow layout is document 01's
 pub narrow-retailers : NarrowRetailers
@@ -91,56 +91,33 @@ same-formed r h = go (eqb (r .kind) kindDateChange) refl
     go true e = date-change-formed r (eqb-true (r .kind) kindDateChange e)
     go false e = retailer-formed r (h (eqb-false (r .kind) kindDateChange e))
 
-module _ (bytes : List ℕ) (nine : NineDigits bytes) where
-  retailer-same : fieldOf (narrow .retailer) bytes ≡ fieldOf (wide .retailer) bytes
-  retailer-same = omega (arith, read-eight bytes, nine .rest)
+retailer-same : (bytes : List ℕ) → fieldOf (narrow .rest) bytes ≡ 0 → fieldOf (narrow .retailer) bytes ≡ fieldOf (wide .retailer) bytes
+retailer-same bytes rest = omega (arith, read-eight bytes, rest)
 
-  fields-same : fieldsBy narrow bytes ≡ fieldsBy wide bytes
-  fields-same = λ i. record {
-    kind = fieldOf kindField bytes;
-    detail = fieldOf detailField bytes;
-    day = fieldOf dayField bytes;
-    reference = fieldOf referenceField bytes;
-    premise = fieldOf premiseField bytes;
-    retailer = retailer-same i;
-  }
-
-  formed-same : wellFormedBy narrow (fieldsBy narrow bytes) ≡ wellFormedBy wide (fieldsBy wide bytes)
-  formed-same = same-formed (fieldsBy narrow bytes) (nine .retailer) ∙ ap (wellFormedBy wide) fields-same
-
-  rest-same : fieldOf (narrow .rest) bytes ≡ fieldOf (wide .rest) bytes
-  unfolding fieldOf
-  rest-same = nine .rest
-
-  whole-same : readingBy narrow bytes ≡ readingBy wide bytes
-  unfolding readingBy
-  whole-same =
-      ap₂ (λ (passes : Bool) (r : Record). cond passes (Says r) Malformed)
-      (ap₂ (λ (rest : ℕ) (formed : Bool). eqb (length bytes) recordLength && eqb rest 0 && formed) rest-same formed-same) fields-same
-
-other-length : (layout : Layout) (bytes : List ℕ) → (length bytes ≡ recordLength → ⊥) → readingBy layout bytes ≡ Malformed
-unfolding readingBy
-other-length layout bytes h = simp (ne-eqb (length bytes) recordLength h)
+fields-same : (bytes : List ℕ) → fieldOf (narrow .rest) bytes ≡ 0 → fieldsBy narrow bytes ≡ fieldsBy wide bytes
+fields-same bytes rest = λ i. record {
+  kind = fieldOf kindField bytes;
+  detail = fieldOf detailField bytes;
+  day = fieldOf dayField bytes;
+  reference = fieldOf referenceField bytes;
+  premise = fieldOf premiseField bytes;
+  retailer = retailer-same bytes rest i;
+}
 
 pub same-reading : SameReading
-same-reading bytes h = go (eqb (length bytes) recordLength) refl
-  where
-    go : (b : Bool) → eqb (length bytes) recordLength ≡ b → readingBy narrow bytes ≡ readingBy wide bytes
-    go true e = whole-same bytes (h (eqb-true (length bytes) recordLength e))
-    go false e =
-        let other = eqb-false (length bytes) recordLength e in
-        other-length narrow bytes other ∙ sym (other-length wide bytes other)
+unfolding readingBy
+same-reading bytes rest names =
+    ap₂ (λ (passes : Bool) (r : Record). cond passes (Says r) Malformed)
+    (ap₂ (λ (left : ℕ) (formed : Bool). eqb (length bytes) recordLength && eqb left 0 && formed) (rest ∙ sym (nothing-left bytes))
+    (same-formed (fieldsBy narrow bytes) names ∙ ap (wellFormedBy wide) (fields-same bytes rest)))
+    (fields-same bytes rest)
 
 pub says-up-to : SaysUpTo
-says-up-to bytes h = go (readingBy wide bytes) (reading-said bytes)
+says-up-to bytes rest names = go (readingBy wide bytes) (reading-said bytes)
   where
     go : (d : Reading) → SaidIn bytes d → NamedUpTo (narrow .lastRetailer) d
     go Malformed said = tt
-    go (Says r) said = λ other.
-        let nine = h (said .long) in
-        let kind : r .kind ≡ fieldOf kindField bytes = ap (λ (x : Record). x .kind) (said .fields) in
-        let retailer : r .retailer ≡ fieldOf (wide .retailer) bytes = ap (λ (x : Record). x .retailer) (said .fields) in
-        omega (arith, retailer, retailer-same bytes nine, nine .retailer (λ d. other (kind ∙ d)))
+    go (Says r) said = subst⁻¹ (NamesUpTo (narrow .lastRetailer)) (said .fields ∙ sym (fields-same bytes rest)) names
 
 -- ---- notices
 same-notice : (n : Notice) → ToUpTo (narrow .lastRetailer) n → encodeBy narrow n ≡ encodeBy wide n

@@ -10,8 +10,8 @@ use Rattle.records.specs.declared.Record.{Record}
 use Rattle.records.specs.declared.Notice.{Notice}
 use Rattle.records.specs.declared.Reading.{Reading}
 use Rattle.records.specs.declared.Reading.the-variants.{Malformed, Says}
-use Rattle.records.specs.Layout.{recordLength, wide, narrow, GoesInto, kindField, bytesOf, fieldOf}
-use Rattle.records.specs.Records.{kindDateChange, aRetailerBy, aRetailerOrNoneBy, aCounter, wellFormedBy, readingBy}
+use Rattle.records.specs.Layout.{Layout, wide, narrow, recordLength, GoesInto, bytesOf, fieldOf}
+use Rattle.records.specs.Records.{kindDateChange, aRetailerBy, aRetailerOrNoneBy, aCounter, wellFormedBy, fieldsBy, readingBy}
 use Rattle.records.specs.Laws.{Given, UpTo}
 use Rattle.records.specs.Notices.{encodeBy, encodeAllBy}
 
@@ -46,13 +46,7 @@ abbrev pub BytesOfEight : Type 0
 BytesOfEight = (n : ℕ) → n < 4294967296 → bytesOf 8 n ≡ bytesOf 4 n ++ (0 ∷ 0 ∷ 0 ∷ 0 ∷ [])
 
 -- ---- records
--- A record's bytes with "zero in 20 to 23 and at most 999,999,999 in the retailer field". A date change's counter is no retailer: it stands
--- in 16 to 19 and may be any.
-pub record NineDigits (bytes : List ℕ) : Type 0 where
-  pub rest : fieldOf (narrow .rest) bytes ≡ 0
-  pub retailer : (fieldOf kindField bytes ≡ kindDateChange → ⊥) → fieldOf (narrow .retailer) bytes ≤ narrow .lastRetailer
-
--- a record that names a retailer up to a number, or none
+-- A record that names a retailer up to a number, or none. A date change's counter is no retailer: it stands in 16 to 19 and may be any.
 abbrev pub NamesUpTo : ℕ → Record → Type 0
 NamesUpTo last r = (r .kind ≡ kindDateChange → ⊥) → r .retailer ≤ last
 
@@ -60,17 +54,25 @@ NamesUpTo last r = (r .kind ≡ kindDateChange → ⊥) → r .retailer ≤ last
 abbrev pub SameFormed : Type 0
 SameFormed = (r : Record) → NamesUpTo (narrow .lastRetailer) r → wellFormedBy narrow r ≡ wellFormedBy wide r
 
--- Such bytes say the same by either layout; bytes of another length meet row 3 by both.
+-- Bytes with zero in 20 to 23 and a retailer up to the narrow limit in 16 to 19 say the same by either layout ..
 abbrev pub SameReading : Type 0
-SameReading = (bytes : List ℕ) → (length bytes ≡ recordLength → NineDigits bytes) → readingBy narrow bytes ≡ readingBy wide bytes
+SameReading =
+    (bytes : List ℕ) → fieldOf (narrow .rest) bytes ≡ 0 → NamesUpTo (narrow .lastRetailer) (fieldsBy narrow bytes)
+    → readingBy narrow bytes ≡ readingBy wide bytes
 
--- and what they say names no retailer above the narrow limit
+-- .. and what they say names no retailer above it.
 abbrev pub NamedUpTo : ℕ → Reading → Type 0
 NamedUpTo last Malformed = Unit {0}
 NamedUpTo last (Says r) = NamesUpTo last r
 
 abbrev pub SaysUpTo : Type 0
-SaysUpTo = (bytes : List ℕ) → (length bytes ≡ recordLength → NineDigits bytes) → NamedUpTo (narrow .lastRetailer) (readingBy wide bytes)
+SaysUpTo =
+    (bytes : List ℕ) → fieldOf (narrow .rest) bytes ≡ 0 → NamesUpTo (narrow .lastRetailer) (fieldsBy narrow bytes)
+    → NamedUpTo (narrow .lastRetailer) (readingBy wide bytes)
+
+-- bytes of another length meet row 3 by any layout
+abbrev pub OtherLength : Type 0
+OtherLength = (layout : Layout) (bytes : List ℕ) → (length bytes ≡ recordLength → ⊥) → readingBy layout bytes ≡ Malformed
 
 -- ---- notices
 -- a notice to a retailer up to a number, or to the TDSP

@@ -114,7 +114,8 @@ pub book-kept-means : BookKeptMeans
 book-kept-means b = (kept-facts b, facts-kept b)
 
 -- ---- by either layout
-files-by-either : (fs : List File) → Each (RetailersUpTo (narrow .lastRetailer)) fs → allOf (fileKeptBy narrow) fs ≡ allOf (fileKeptBy wide) fs
+files-by-either : (fs : List File) → Each (RetailersUpTo (narrow .lastRetailer)) fs
+    → allOf (fileKeptBy narrow) fs ≡ allOf (fileKeptBy wide) fs
 files-by-either [] h = refl
 files-by-either (f ∷ fs) h = ap₂ (λ (a b : Bool). a && b) (kept-by-either f (h .0)) (files-by-either fs (h .1))
 

@@ -1,5 +1,5 @@
--- The table of a call in its order: the rows' numbers, rows 1 and 2 before all that come after them, and rows 2 and 3 by any layout. Assumes
--- nothing.
+-- The table of a call in its order: the rows' numbers, rows 1 and 2 before all that come after them, and rows 2 and 3 by any layout.
+-- Assumes nothing.
 use Prim.Native.Nat.{ℕ}
 use mathlib.Core.Path.{_≡_, refl, sym, ap, ap₂, _∙_}
 use mathlib.Core.List.{List, [], _∷_, _++_, map-append}

@@ -25,7 +25,7 @@ use Rattle.premise.specs.OnePremise.{marked, step}
 use Rattle.premise.proofs.Answers.{holds}
 use Rattle.book.specs.declared.Book.{Book}
 use Rattle.book.specs.Book.{mostFiles, filesOf, bookOf, bookKept, freshBook, fileFor, withFile}
-use Rattle.book.specs.Calls.{noticeBytes, recordRows, callRows, premiseState, markedFiles, call, meetsRow6, callRowsBy}
+use Rattle.book.specs.Calls.{noticeBytes, recordRows, premiseState, markedFiles, call, meetsRow6, callRowsBy}
 use Rattle.book.proofs.FilesPut.{put-length}
 use Rattle.book.proofs.FilesTaken.{taken-length}
 use Rattle.book.proofs.Kept.{holds-its-files, fresh-kept}

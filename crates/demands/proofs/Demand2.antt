@@ -18,7 +18,7 @@ use Rattle.premise.specs.Refusals.{number}
 use Rattle.premise.specs.OnePremise.{State, Given, step}
 use Rattle.book.specs.declared.Book.{Book}
 use Rattle.book.specs.Book.{filesOf, bookOf, fileFor, withFile}
-use Rattle.book.specs.Calls.{noticeBytes, callRows, premiseState, markedFiles, markedBook, Result, refusal, call, meetsRow6, callRowsBy}
+use Rattle.book.specs.Calls.{noticeBytes, premiseState, markedFiles, markedBook, Result, refusal, call, meetsRow6, callRowsBy}
 use Rattle.book.specs.Calls.{onDayMark, asOne}
 use Rattle.book.specs.Laws.{BookKept}
 use Rattle.demands.specs.Demand2.{PastRows1And2, OfAPremise, OfTheNextDay, OfAnotherDay, ShortBufferGets1, DamagedBookGets2}

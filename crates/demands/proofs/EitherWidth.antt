@@ -1,9 +1,9 @@
--- Either field width: on a book without a retailer above the narrow limit a call by bytes without one is the same by either layout, since its
--- bytes say the same and the book is well kept by both; and it leaves such a book and notices to no other retailer. Assumes nothing.
+-- Either field width: on a book without a retailer above the narrow limit a call by bytes without one is the same by either layout, since
+-- its bytes say the same and the book is well kept by both or neither; and it leaves such a book, and notices to no other retailer. Assumes
+-- nothing.
 use Prim.Native.Nat.{ℕ, _*_, min}
-use mathlib.Core.Path.{_≡_, refl, ap, ap₂, sym, subst, subst⁻¹, _∙_}
+use mathlib.Core.Path.{_≡_, refl, ap, sym, subst, subst⁻¹, _∙_}
 use mathlib.Core.List.{List, [], _∷_, _++_}
-use mathlib.Core.Option.{Option}
 use mathlib.Core.Bool.{Bool, true, false}
 use lib.Dec.{eqb}
 use lib.ListN.{length, drop}
@@ -12,7 +12,6 @@ use Rattle.lists.specs.Search.{Each}
 use Rattle.lists.proofs.TestLaws.{by-test}
 use Rattle.lists.proofs.SearchLaws.{each-append}
 use Rattle.days.specs.Days.{lastDay}
-use Rattle.records.specs.declared.Record.{Record}
 use Rattle.records.specs.declared.Notice.{Notice}
 use Rattle.records.specs.declared.Reading.{Reading}
 use Rattle.records.specs.declared.Reading.the-variants.{Malformed, Says}
@@ -26,11 +25,10 @@ use Rattle.premise.specs.Orders.{keptWidth}
 use Rattle.premise.specs.Steps.{is}
 use Rattle.premise.specs.Refusals.{number, firstRow}
 use Rattle.premise.specs.OnePremise.{Given, givenOn, marked}
-use Rattle.premise_laws.specs.Laws.{Held}
 use Rattle.premise_laws.specs.Retailers.{RetailersUpTo, GivesUpTo}
 use Rattle.premise_laws.proofs.Retailers.{step-makes-no-retailer, mark-makes-no-retailer}
 use Rattle.book.specs.declared.Book.{Book}
-use Rattle.book.specs.Book.{filesOf, bookOf, freshBook, fileFor, withFile}
+use Rattle.book.specs.Book.{filesOf, freshBook, fileFor, withFile}
 use Rattle.book.specs.Calls.{Result, callRows, markedFiles, markedNotices, markedBook, premiseState, onPremise, onReading, callBy, call}
 use Rattle.book.proofs.Files.{found-each}
 use Rattle.book.proofs.SameFiles.{with-each}
@@ -100,7 +98,9 @@ module _ (calendar : List ℕ) where
   reading-left b u (Says r) n =
       by-test Stays (is kindDayMark r) (markedBook calendar b (r .day)) (onPremise calendar b r)
       (λ t. record {
-        files = subst NoneAbove (sym (holds-its-files (r .day) (markedFiles calendar (r .day) (filesOf b)))) (files-left (r .day) (filesOf b) u);
+        files =
+            subst NoneAbove (sym (holds-its-files (r .day) (markedFiles calendar (r .day) (filesOf b))))
+            (files-left (r .day) (filesOf b) u);
         notices = notices-left (r .day) (filesOf b) u;
       })
       (λ t. let given : Given = givenOn calendar (b .today) (fileFor (r .premise) (filesOf b)) r in

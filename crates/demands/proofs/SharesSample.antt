@@ -19,9 +19,9 @@ use Rattle.premise.specs.Evaluation.{permitOvertaken, isDue, lossNotice, evalua
 use Rattle.premise.specs.FirstIn.{refuses, standsInWay, notFirstIn}
 use Rattle.premise.specs.WellKept.{orderKeptBy, isBlank, fileKeptBy, fileBlank}
 use Rattle.premise.specs.Refusals.{number, premiseRows, orderRows}
-use Rattle.premise.specs.OnePremise.{marked, stepped, step, markedWith, stepWith, steppedWith}
+use Rattle.premise.specs.OnePremise.{markedWith, stepWith, steppedWith}
 use Rattle.book.specs.Book.{bookOf, bookKeptBy, filesOf, freshBook, fileFor, putIn, takenOut}
-use Rattle.book.specs.Calls.{callRows, call, callRowsBy, callBy}
+use Rattle.book.specs.Calls.{call, callRowsBy, callBy}
 use Rattle.demands.specs.Demand3.{Made, lastBook}
 use Rattle.demands.specs.Sample.{lent, made, plays}
 use Rattle.demands.specs.LastDay.{create7}
@@ -32,12 +32,10 @@ use Rattle.demands.proofs.Shares.{no-retailer-fills, room-for-others}
 pub comes : Comes
 unfolding reviewed permitAwaited cancelAwaited ticked contends switchOfDay givesWay sameDaySwitch isDisplaced dropOnSwitchDay isOvertaken
     permitOvertaken isDue lossNotice evaluation refuses standsInWay notFirstIn markedWith steppedWith stepWith places number premiseRows
-    orderRows
-    requestedDay makeRoom ordered taken onScheduled onPermit onUnexecutable onRead supplied onCancel onReply onOrder onDateChange onNamed
-    changed agreed orderKeptBy isBlank fileKeptBy fileBlank fieldOf encodeBy wellFormedBy readingBy kindOfDay isBusinessDay switchDate businessDays
-    inWindow
-    bookOf bookKeptBy fileFor putIn takenOut callRowsBy callBy lent made plays create7 dropOf beginning tape sample third dropped file7
-    found
+    orderRows requestedDay makeRoom ordered taken onScheduled onPermit onUnexecutable onRead supplied onCancel onReply onOrder onDateChange
+    onNamed changed agreed orderKeptBy isBlank fileKeptBy fileBlank fieldOf encodeBy wellFormedBy readingBy kindOfDay isBusinessDay
+    switchDate businessDays inWindow bookOf bookKeptBy fileFor putIn takenOut callRowsBy callBy lent made plays create7 dropOf beginning
+    tape sample third dropped file7 found
 comes = record {
   answered = refl;
   shares = refl;

@@ -30,7 +30,8 @@ use Rattle.premise_laws.proofs.Windows.{step-leaves-width, create-gives-width, 
 use Rattle.premise_laws.proofs.Windows.{mark-of-width}
 use Rattle.book.specs.declared.Book.{Book}
 use Rattle.book.specs.Book.{mostFiles, filesOf, bookOf, freshBook, bookKept, fileFor, withFile}
-use Rattle.book.specs.Calls.{Result, recordRowsWith, callRowsBy, callRowsWith, markedFilesWith, markedNoticesWith, premiseState, onReadingWith, refusal}
+use Rattle.book.specs.Calls.{Result, recordRowsWith, callRowsBy, callRowsWith, markedFilesWith, markedNoticesWith, premiseState}
+use Rattle.book.specs.Calls.{onReadingWith, refusal}
 use Rattle.book.specs.Calls.{noticeBytes, callRows, markedFiles, markedBook, onPremise, onReading, callBy, callWith, call}
 use Rattle.book.proofs.Files.{found-each}
 use Rattle.book.proofs.SameFiles.{with-each}

@@ -14,8 +14,8 @@ use Rattle.demands.specs.Demand3.{Made, Played, PlayedBy}
 use Rattle.demands.specs.Outcomes.{ToMake, outcomesBy, allReturned, asked}
 
 -- ---- the premise
--- A record's bytes with "zero in 20 to 23 and at most 999,999,999 in the retailer field". A date change has no retailer there: its counter, in
--- 16 to 19, may be any.
+-- A record's bytes with "zero in 20 to 23 and at most 999,999,999 in the retailer field". A date change has no retailer there: its counter,
+-- in 16 to 19, may be any.
 pub record NineDigits (bytes : List ℕ) : Type 0 where
   pub rest : fieldOf (narrow .rest) bytes ≡ 0
   pub retailer : (fieldOf kindField bytes ≡ kindDateChange → ⊥) → fieldOf (narrow .retailer) bytes ≤ 999999999

@@ -1,5 +1,5 @@
--- Two lists of calls to be made that are computed. Of the first, whose records have nine digits at most, `EitherWidth` speaks. Of the second,
--- whose records have more, it doesn't: there the two sides differ.
+-- Two lists of calls to be made that are computed. Of the first, whose records have nine digits at most, `EitherWidth` speaks. Of the
+-- second, whose records have more, it doesn't: there the two sides differ.
 use Prim.Native.Nat.{ℕ}
 use mathlib.Core.Path.{_≡_}
 use mathlib.Core.List.{List, [], _∷_, map}

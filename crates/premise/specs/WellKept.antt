@@ -31,8 +31,8 @@ permitFits o = not (hasStatus permitPending o) || hasKind moveIn o
 abbrev pub pendingFits : Order → Bool
 pendingFits o = cond (hasStatus cancelPending o) (not (leb mostPending (o .pending .0))) (eqb (o .pending .0) 0)
 
--- An order with every field in range: a retailer by the layout's limit (document 02, change 7), and of the counter of date changes, which is
--- kept as wide as the field that it comes from, any number of its 32 bits.
+-- An order with every field in range: a retailer by the layout's limit (document 02, change 7), and the counter of date changes, which is
+-- kept as wide as the field that it comes from, any number of 32 bits.
 unfoldable pub orderKeptBy : Layout → Order → Bool
 orderKeptBy layout o =
     aReference (o .reference)

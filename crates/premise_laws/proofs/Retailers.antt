@@ -1,12 +1,12 @@
 -- No step makes a retailer: every Q, R, C and addressee afterwards was one of them before, or the record's own, or 0. Assumes nothing.
 use Prim.Native.Nat.{ℕ, zero, suc, _≤_}
-use mathlib.Core.Path.{_≡_, refl, sym, ap, ap₂, subst, _∙_}
+use mathlib.Core.Path.{_≡_, refl, sym, ap₂, subst, _∙_}
 use mathlib.Core.List.{List, [], _∷_, _++_}
 use mathlib.Core.Option.{Option, none, some}
 use mathlib.Core.Bool.{Bool, true, false, cond, not, _&&_}
 use native.Mathlib.Omega.{arith}
 use lib.Dec.{eqb, leb}
-use lib.ListN.{length, getD, set}
+use lib.ListN.{getD, set}
 use borrow.Author.Tests.{eqb-true, le-leb}
 use Rattle.lists.specs.Search.{allOf, Each}
 use Rattle.lists.specs.declared.Found.{Found}
@@ -26,13 +26,13 @@ use Rattle.premise.specs.declared.File.{File}
 use Rattle.premise.specs.Orders.{scheduled, hasStatus, hasKind, isClosed, blank, held, withOrders}
 use Rattle.premise.specs.Passes.{Change, Outcome, Effect, passFrom, andThen, onFile, noticeOfNoOrder, codeAgreementRequest}
 use Rattle.premise.specs.Passes.{codeAgreementResponse}
-use Rattle.premise.specs.Steps.{is, newOrder, named, orderAt, makeRoom, isHeldOff, supplied, ordered, changed, onOrder, onScheduled}
+use Rattle.premise.specs.Steps.{is, newOrder, named, makeRoom, isHeldOff, supplied, ordered, changed, onOrder, onScheduled}
 use Rattle.premise.specs.Steps.{onPermit, onUnexecutable, onRead, onCancel, onReply, onDateChange, onNamed, hasOtherHolder, agreed}
 use Rattle.premise.specs.Clock.{clock, ticked, reviewed, permitAwaited, cancelAwaited}
 use Rattle.premise.specs.Evaluation.{sameDaySwitches, sameDaySwitch, dropsOnSwitchDays, dropOnSwitchDay, permitsOvertaken, permitOvertaken}
 use Rattle.premise.specs.Evaluation.{lossNotices, lossNotice, evaluation, evaluatedWith}
 use Rattle.premise.specs.Refusals.{firstRow, rowsWith}
-use Rattle.premise.specs.OnePremise.{Given, followed, atPlace, effectOnWith, markedWith, steppedWith, recordDoneWith, stepWith}
+use Rattle.premise.specs.OnePremise.{followed, atPlace, effectOnWith, markedWith, steppedWith, recordDoneWith, stepWith}
 use Rattle.premise.specs.WellKept.{orderKeptBy, fileKeptBy}
 use Rattle.premise.proofs.Answers.{either}
 use Rattle.premise.proofs.KeptFiles.{held-with}
@@ -126,8 +126,8 @@ record PassesUpTo (last : ℕ) (done : Outcome) : Type 0 where
   pub notices : Each (ToUpTo last) (done .notices)
 
 module _ (last : ℕ) where
-  pass-names : (g : ℕ → Order → Change) → ((i : ℕ) (o : Order) → Within last (o .submitter) → Changes last (g i o)) → (i : ℕ) (os : List Order)
-      → Each (OfUpTo last) os → PassesUpTo last (passFrom g i os)
+  pass-names : (g : ℕ → Order → Change) → ((i : ℕ) (o : Order) → Within last (o .submitter) → Changes last (g i o))
+      → (i : ℕ) (os : List Order) → Each (OfUpTo last) os → PassesUpTo last (passFrom g i os)
   pass-names g h i [] k = record { orders = tt; notices = tt }
   pass-names g h i (o ∷ os) k =
       let here = h i o (record { fact = k .0 }) in
@@ -213,7 +213,7 @@ at-place last [] i h = omega arith
 at-place last (o ∷ os) zero h = h .0
 at-place last (o ∷ os) (suc i) h = at-place last os i (h .1)
 
-module _ (last : ℕ) (calendar : List ℕ) (today : ℕ) (f : File) (r : Record) (named-up-to : NamesUpTo last r) (h : RetailersUpTo last f) where
+module _ (last : ℕ) (calendar : List ℕ) (today : ℕ) (f : File) (r : Record) (names : NamesUpTo last r) (h : RetailersUpTo last f) where
   supplied-names : (o : Order) → OfUpTo last o → RetailersUpTo last (supplied f r o)
   unfolding supplied
   supplied-names o own =
@@ -230,7 +230,8 @@ module _ (last : ℕ) (calendar : List ℕ) (today : ℕ) (f : File) (r : Record
   place-names (At i) =
       let o = getD (held f) i blank in
       let own = at-place last (held f) i (h .submitters) in
-      let done = order-names last o (record { fact = own }) calendar today f r (record { fact = h .retailer }) (record { fact = h .agreement }) in
+      let done = order-names last o (record { fact = own }) calendar today f r (record { fact = h .retailer })
+      (record { fact = h .agreement }) in
       record {
         file = with-orders last (supplied f r o) (set (held f) i (onNamed calendar today f r o .order)) (supplied-names o own)
             (each-set (OfUpTo last) (held f) i (onNamed calendar today f r o .order) (h .submitters) (done .order));
@@ -245,7 +246,7 @@ module _ (last : ℕ) (calendar : List ℕ) (today : ℕ) (f : File) (r : Record
         file = with-orders last f (makeRoom (held f) ++ (newOrder calendar today r ∷ [])) h
             (each-append (OfUpTo last) (makeRoom (held f)) (newOrder calendar today r ∷ [])
             (room-by (Each (OfUpTo last)) (held f) (h .submitters) (each-without (OfUpTo last) isClosed (held f) (h .submitters)))
-            (named-up-to (other-kind kindNewOrder r (λ d. omega (arith, d)) e), tt));
+            (names (other-kind kindNewOrder r (λ d. omega (arith, d)) e), tt));
         notices = (omega arith, tt);
       }
 
@@ -271,7 +272,7 @@ module _ (last : ℕ) (calendar : List ℕ) (today : ℕ) (f : File) (r : Record
       })
     where
       named-retailer : r .retailer ≤ last
-      named-retailer = named-up-to (other-kind kindAgreement r (λ d. omega (arith, d)) e)
+      named-retailer = names (other-kind kindAgreement r (λ d. omega (arith, d)) e)
 
       go : (other : Bool)
           → Each (ToUpTo last) (cond other (noticeOfNoOrder codeAgreementRequest (f .premise) (f .agreement) ∷ []) []

@@ -123,8 +123,9 @@ says-up-to bytes rest names = go (readingBy wide bytes) (reading-said bytes)
 same-notice : (n : Notice) → ToUpTo (narrow .lastRetailer) n → encodeBy narrow n ≡ encodeBy wide n
 unfolding encodeBy
 same-notice n h =
-    ap (λ (last : List ℕ). bytesOf (kindField .width) (n .code) ++ bytesOf (detailField .width) (n .kind) ++ bytesOf (dayField .width) (n .day)
-    ++ bytesOf (referenceField .width) (n .reference) ++ bytesOf (premiseField .width) (n .premise) ++ last)
+    ap (λ (last : List ℕ). bytesOf (kindField .width) (n .code) ++ bytesOf (detailField .width) (n .kind)
+    ++ bytesOf (dayField .width) (n .day) ++ bytesOf (referenceField .width) (n .reference) ++ bytesOf (premiseField .width) (n .premise)
+    ++ last)
     (sym (bytes-of-eight (n .addressee) (omega (arith, h))))
 
 pub same-notices : SameNotices

@@ -45,8 +45,8 @@ ACounter = UpTo lastCounter
 abbrev pub AWindow : ℕ → Type 0
 AWindow n = n ≤ mostWidth
 
--- F and a counter have 32 bits and P 64, and none is 0. The tests of F and P ask "not 0" and leave the bits to the fields, that of a counter,
--- whose field is wider, asks for both: of what goes into its field each says the document's whole range.
+-- F and a counter have 32 bits and P 64, and none is 0. The tests of F and P ask "not 0" and leave the bits to the fields; that of a
+-- counter, whose field is wider, asks for both. Of what goes into its field each says the documents' whole range.
 abbrev pub SaysRange : (ℕ → Bool) → Field → ℕ → Type 0
 SaysRange test field last = (n : ℕ) → GoesInto field n → (test n ≡ true) ↔ UpTo last n
 

@@ -22,8 +22,7 @@ use Rattle.premise.specs.OnePremise.{markedWith, steppedWith, stepWith}
 use Rattle.book.specs.Book.{bookOf, bookKeptBy, fileFor, putIn, takenOut}
 use Rattle.book.specs.Calls.{callRowsBy, callBy}
 use Rattle.demands.specs.Sample.{lent}
-use Rattle.demands.specs.LastDay.{oneByte}
-use Rattle.demands.specs.WidthSample.{asking, create, moveIn, redated, scheduled, established, shortMark, mark, oneAlone, retireOf5}
+use Rattle.demands.specs.WidthSample.{asking, create, moveIn, redated, scheduled, established, shortMark, mark, tooLong, retireOf5}
 use Rattle.demands.specs.WidthSample.{nineDigits, longSwitch, wideCounter, retireOfRest, moreDigits, outcomes, answers, told}
 use Rattle.demands.specs.WidthSample.{bookWith, marked, toldOfNine, toldOfMore, Comes, WidthTells, RestTells}
 use Rattle.demands.proofs.EitherWidth.{either-width}
@@ -33,8 +32,8 @@ unfolding reviewed permitAwaited cancelAwaited ticked contends switchOfDay gives
     permitOvertaken isDue lossNotice evaluation refuses standsInWay notFirstIn markedWith steppedWith stepWith places number premiseRows
     orderRows requestedDay makeRoom ordered taken onScheduled onPermit onUnexecutable onRead supplied onCancel onReply onOrder onDateChange
     onNamed agreed changed orderKeptBy isBlank fileKeptBy fileBlank fieldOf encodeBy wellFormedBy readingBy kindOfDay isBusinessDay
-    switchDate businessDays inWindow bookOf bookKeptBy fileFor putIn takenOut callRowsBy callBy lent oneByte asking create moveIn redated
-    scheduled established shortMark mark oneAlone retireOf5 nineDigits longSwitch wideCounter retireOfRest moreDigits outcomes answers told
+    switchDate businessDays inWindow bookOf bookKeptBy fileFor putIn takenOut callRowsBy callBy lent asking create moveIn redated
+    scheduled established shortMark mark tooLong retireOf5 nineDigits longSwitch wideCounter retireOfRest moreDigits outcomes answers told
     bookWith marked toldOfNine toldOfMore
 comes =
     record {
@@ -47,7 +46,7 @@ comes =
             (
               λ l. record { rest = refl; retailer = λ other. omega arith },
               (
-                λ l. record { rest = refl; retailer = λ other. omega arith },
+                λ l. absurd (omega (arith, l)),
                 (
                   λ l. record { rest = refl; retailer = λ other. omega arith },
                   (

@@ -11,7 +11,7 @@ use Rattle.book.specs.declared.Book.{Book}
 use Rattle.book.specs.Book.{freshBook}
 use Rattle.book.specs.Calls.{callBy}
 use Rattle.demands.specs.Sample.{lent}
-use Rattle.demands.specs.LastDay.{plain, oneByte}
+use Rattle.demands.specs.LastDay.{plain}
 use Rattle.demands.specs.Outcomes.{Outcome, ToMake, outcomesBy}
 use Rattle.demands.specs.EitherWidth.{NoLongRetailer}
 
@@ -67,16 +67,16 @@ shortMark = record { bytes = plain 10 0 11 0 0 0 0; lent = 9 ∷ [] }
 unfoldable pub mark : ToMake
 mark = asking (plain 10 0 11 0 0 0 0)
 
--- bytes that are malformed: one alone, and a retire with a retailer
-unfoldable pub oneAlone : ToMake
-oneAlone = asking oneByte
+-- bytes that are malformed: a create of 25 bytes with one in 20 to 23, of which nothing is asked, and a retire with a retailer
+unfoldable pub tooLong : ToMake
+tooLong = asking (bytesOf7 1 0 0 0 (1 ∷ 0 ∷ 0 ∷ 0 ∷ 1 ∷ 0 ∷ 0 ∷ 0 ∷ 0 ∷ []))
 
 unfoldable pub retireOf5 : ToMake
 retireOf5 = asking (plain 2 0 0 0 0 7 5)
 
 unfoldable pub nineDigits : List ToMake
 nineDigits =
-    create nineNines ∷ moveIn ∷ redated ∷ shortMark ∷ oneAlone ∷ retireOf5 ∷ established ∷ scheduled ∷ mark ∷ []
+    create nineNines ∷ moveIn ∷ redated ∷ shortMark ∷ tooLong ∷ retireOf5 ∷ established ∷ scheduled ∷ mark ∷ []
 
 -- ---- more digits
 -- a switch of a thirteen-digit retailer for day 11, reference 1

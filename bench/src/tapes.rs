@@ -65,7 +65,7 @@ fn full_file(file: u16) -> Vec<Entry> {
             kind,
             day,
             reference,
-            retailer: 200 + reference,
+            retailer: 200 + u64::from(reference),
         })
     };
     let scheduled = |reference, day| Entry::event(reference, Event::Scheduled { day });

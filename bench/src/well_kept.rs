@@ -40,19 +40,19 @@ fn file_is_well_kept(file: &File) -> bool {
 
 /// Is every field 0, those of all orders too?
 fn file_is_empty(file: &File) -> bool {
-    let retailers = file.retailer | file.agreement;
-    let own = file.premise | u64::from(retailers) | u64::from(file.since);
+    let numbers = file.premise | file.retailer | file.agreement;
     let bytes = file.order_count | file.window.0 | file.moved_in;
-    (own | u64::from(bytes) == 0) & all(&file.orders, order_is_empty)
+    let own = numbers | u64::from(file.since) | u64::from(bytes);
+    (own == 0) & all(&file.orders, order_is_empty)
 }
 
 /// Is every field 0? One test over all of them.
 fn order_is_empty(order: &Order) -> bool {
-    let numbers = order.reference | order.retailer | order.counter;
+    let numbers = order.retailer | u64::from(order.reference | order.counter);
     let days = order.requested_day | order.scheduled_day;
     let bytes =
         order.kind | order.status | order.waited.0 | order.cancel_pending_for.0 | order.told;
-    numbers | u32::from(days) | u32::from(bytes) == 0
+    numbers | u64::from(days) | u64::from(bytes) == 0
 }
 
 /// Tests all orders without stopping at the first that fails: this is done for

@@ -175,7 +175,8 @@ fn with_malformed(random: &mut Random, tape: &[u8]) -> Vec<u8> {
             Some(record) if record.len() == RECORD_BYTES => record.clone(),
             _ => vec![0; RECORD_BYTES],
         };
-        bytes[20 + random.below(4)] = 1 + random.below(255) as u8;
+        // more than any retailer or counter has there
+        bytes[22 + random.below(2)] = 1 + random.below(255) as u8;
         records.insert(place, bytes);
     }
     records.concat()

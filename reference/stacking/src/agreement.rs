@@ -23,7 +23,7 @@ pub fn record(
 }
 
 /// Detail 1. A retailer that loses the agreement to another one hears of it first.
-fn establish(file: &mut File, retailer: u32, notices: &mut NoticeWriter) {
+fn establish(file: &mut File, retailer: u64, notices: &mut NoticeWriter) {
     let earlier = file.agreement;
     if earlier != NO_AGREEMENT && earlier != retailer {
         notices.write_of_premise(Code::AgreementReplaced, file.premise, earlier);
@@ -33,7 +33,7 @@ fn establish(file: &mut File, retailer: u32, notices: &mut NoticeWriter) {
 }
 
 /// Detail 2.
-fn delete(file: &mut File, retailer: u32, notices: &mut NoticeWriter) {
+fn delete(file: &mut File, retailer: u64, notices: &mut NoticeWriter) {
     file.agreement = NO_AGREEMENT;
     notices.write_of_premise(Code::Agreement, file.premise, retailer);
 }

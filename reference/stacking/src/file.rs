@@ -11,10 +11,10 @@ pub const ORDERS_A_FILE: usize = 8;
 pub const OPEN_ORDERS_A_RETAILER: usize = 4;
 
 /// R of a premise without a retailer.
-pub const DE_ENERGIZED: u32 = 0;
+pub const DE_ENERGIZED: u64 = 0;
 
 /// C of a premise without a service agreement.
-pub const NO_AGREEMENT: u32 = 0;
+pub const NO_AGREEMENT: u64 = 0;
 
 /// One premise. Like [`Order`], any number fits in any field.
 #[derive(Clone, Copy, Debug, Default, PartialEq, Eq)]
@@ -22,7 +22,7 @@ pub struct File {
     /// P, the premise number; not 0.
     pub premise: u64,
     /// R, the premise's retailer; 0 means de-energized.
-    pub retailer: u32,
+    pub retailer: u64,
     /// S, the day since which the retailer holds.
     pub since: u16,
     /// How many of the places of `orders` are used.
@@ -30,7 +30,7 @@ pub struct File {
     /// How many business days wide the premise's window is.
     pub window: BusinessDays,
     /// C, the retailer of the owner's service agreement; 0 for none.
-    pub agreement: u32,
+    pub agreement: u64,
     /// 1 if a move in read on the day of `since` set the retailer.
     pub moved_in: u8,
     /// The orders, oldest first; unused places are zero.
@@ -51,7 +51,7 @@ impl File {
     };
 
     /// A file without orders and agreement, with the usual window.
-    pub fn new(premise: u64, retailer: u32, since: u16) -> File {
+    pub fn new(premise: u64, retailer: u64, since: u16) -> File {
         File {
             premise,
             retailer,
@@ -95,7 +95,7 @@ impl File {
     }
 
     /// How many open orders has this retailer submitted, or gains by, here?
-    pub fn open_orders_of(&self, retailer: u32) -> usize {
+    pub fn open_orders_of(&self, retailer: u64) -> usize {
         self.held()
             .iter()
             .filter(|order| order.is_open() && order.retailer == retailer)
@@ -104,7 +104,7 @@ impl File {
 
     /// Who is told of an order: of a move out the holder of the service
     /// agreement, of any other the premise's retailer; nobody where there is none.
-    pub fn told_of(&self, order: &Order) -> Option<u32> {
+    pub fn told_of(&self, order: &Order) -> Option<u64> {
         let (retailer, nobody) = match order.kind {
             kind::MOVE_OUT => (self.agreement, NO_AGREEMENT),
             _ => (self.retailer, DE_ENERGIZED),

@@ -8,7 +8,7 @@ use crate::record::{Fields, RECORD_BYTES};
 pub const NOTICE_BUFFER_BYTES: usize = 24_576;
 
 /// The addressee that stands for the TDSP, the wires company.
-pub const TDSP: u32 = 0;
+pub const TDSP: u64 = 0;
 
 /// A notice's code, with the transaction it stands for.
 #[derive(Clone, Copy, Debug, PartialEq, Eq)]
@@ -72,7 +72,7 @@ impl<'a> NoticeWriter<'a> {
     }
 
     /// Writes the next notice, about `order` as it now is.
-    pub fn write(&mut self, code: Code, premise: u64, order: &Order, addressee: u32) {
+    pub fn write(&mut self, code: Code, premise: u64, order: &Order, addressee: u64) {
         self.put(Fields {
             kind: code as u8,
             detail: order.kind,
@@ -80,12 +80,11 @@ impl<'a> NoticeWriter<'a> {
             reference: order.reference,
             premise,
             retailer: addressee,
-            tail: 0,
         });
     }
 
     /// Writes the next notice, about the premise and none of its orders.
-    pub fn write_of_premise(&mut self, code: Code, premise: u64, addressee: u32) {
+    pub fn write_of_premise(&mut self, code: Code, premise: u64, addressee: u64) {
         self.put(Fields {
             kind: code as u8,
             premise,

@@ -22,8 +22,9 @@ pub mod status {
     pub const UNEXECUTABLE: u8 = 7;
 }
 
-/// Retailers are 1 to this number; 0 stands for none.
-pub const LARGEST_RETAILER: u32 = 999_999_999;
+/// Retailers are 1 to this number: nine digits and a suffix of four (02, change 7).
+/// 0 stands for none.
+pub const LARGEST_RETAILER: u64 = 9_999_999_999_999;
 
 /// One order. Every field can hold any number, also one out of range: a book
 /// that is handed in may be damaged, and row 2 has to be able to say so.
@@ -32,7 +33,7 @@ pub struct Order {
     /// F, the reference; not 0.
     pub reference: u32,
     /// Q, the submitting retailer; for a mass transition drop the gaining one.
-    pub retailer: u32,
+    pub retailer: u64,
     /// RD.
     pub requested_day: u16,
     /// SD, or "no day".

@@ -16,8 +16,7 @@ mod place {
     pub const DAY: Range<usize> = 2..4;
     pub const REFERENCE: Range<usize> = 4..8;
     pub const PREMISE: Range<usize> = 8..16;
-    pub const RETAILER: Range<usize> = 16..20;
-    pub const TAIL: Range<usize> = 20..24;
+    pub const RETAILER: Range<usize> = 16..24;
 }
 
 /// The fields of a record, or of a notice with its code as the kind and its
@@ -29,9 +28,7 @@ pub struct Fields {
     pub day: u16,
     pub reference: u32,
     pub premise: u64,
-    pub retailer: u32,
-    /// The last four bytes, zero in every record and notice.
-    pub tail: u32,
+    pub retailer: u64,
 }
 
 impl Fields {
@@ -42,8 +39,7 @@ impl Fields {
             day: u16::from_le_bytes(part(bytes, place::DAY)),
             reference: u32::from_le_bytes(part(bytes, place::REFERENCE)),
             premise: u64::from_le_bytes(part(bytes, place::PREMISE)),
-            retailer: u32::from_le_bytes(part(bytes, place::RETAILER)),
-            tail: u32::from_le_bytes(part(bytes, place::TAIL)),
+            retailer: u64::from_le_bytes(part(bytes, place::RETAILER)),
         }
     }
 
@@ -55,7 +51,6 @@ impl Fields {
         bytes[place::REFERENCE].copy_from_slice(&self.reference.to_le_bytes());
         bytes[place::PREMISE].copy_from_slice(&self.premise.to_le_bytes());
         bytes[place::RETAILER].copy_from_slice(&self.retailer.to_le_bytes());
-        bytes[place::TAIL].copy_from_slice(&self.tail.to_le_bytes());
         bytes
     }
 }
@@ -92,9 +87,9 @@ pub enum Entry {
 #[derive(Clone, Copy, Debug, PartialEq, Eq)]
 pub enum Agreement {
     /// Detail 1.
-    Establish { retailer: u32 },
+    Establish { retailer: u64 },
     /// Detail 2.
-    Delete { retailer: u32 },
+    Delete { retailer: u64 },
 }
 
 /// A new file as the record gives it.
@@ -103,7 +98,7 @@ pub struct NewFile {
     /// S.
     pub since: u16,
     /// R, or 0.
-    pub retailer: u32,
+    pub retailer: u64,
     /// The window in business days; 0 means the usual one (02, change 2).
     pub window: u8,
 }
@@ -127,7 +122,7 @@ pub struct NewOrder {
     /// F.
     pub reference: u32,
     /// Q.
-    pub retailer: u32,
+    pub retailer: u64,
 }
 
 /// What happens to a held order.
@@ -142,7 +137,7 @@ pub enum Event {
     /// Kind 7.
     MeterRead { day: u16 },
     /// Kind 8.
-    Cancel { retailer: u32 },
+    Cancel { retailer: u64 },
     /// Kind 9, detail 1.
     CancelAccepted,
     /// Kind 9, detail 2.
@@ -158,7 +153,7 @@ struct Ranges {
     day: (u16, u16),
     reference: (u32, u32),
     premise: (u64, u64),
-    retailer: (u32, u32),
+    retailer: (u64, u64),
 }
 
 const UNUSED: Ranges = Ranges {
@@ -171,10 +166,12 @@ const UNUSED: Ranges = Ranges {
 
 const ANY_DAY: (u16, u16) = (0, LAST_DAY);
 const ANY_REFERENCE: (u32, u32) = (1, u32::MAX);
-const ANY_RETAILER: (u32, u32) = (1, LARGEST_RETAILER);
+const ANY_RETAILER: (u64, u64) = (1, LARGEST_RETAILER);
 
-/// A date change has its counter where other records have a retailer.
-const ANY_COUNTER: (u32, u32) = (1, u32::MAX);
+/// A date change has its counter where other records have a retailer, but only in
+/// the first four of the eight bytes; the others are zero.
+const ANY_COUNTER: (u64, u64) = (1, LARGEST_COUNTER);
+const LARGEST_COUNTER: u64 = u32::MAX as u64;
 
 /// A record about a premise.
 const PREMISE: Ranges = Ranges {
@@ -264,7 +261,6 @@ impl Ranges {
             && within(self.reference, fields.reference)
             && within(self.premise, fields.premise)
             && within(self.retailer, fields.retailer)
-            && fields.tail == 0
     }
 }
 
@@ -300,7 +296,8 @@ pub fn decode(bytes: &[u8]) -> Option<Record> {
         10 => return Some(Record::DayMark { day: fields.day }),
         11 => on_order(Event::DateChange {
             day: fields.day,
-            counter: fields.retailer,
+            // in range, so that four bytes have all of it
+            counter: fields.retailer as u32,
         }),
         _ => Entry::Agreement(agreement(&fields)),
     };
@@ -419,7 +416,7 @@ impl Event {
             Event::Cancel { retailer } => (8, 0, 0, retailer),
             Event::CancelAccepted => (9, CANCEL_ACCEPTED, 0, 0),
             Event::CancelRejected => (9, CANCEL_REJECTED, 0, 0),
-            Event::DateChange { day, counter } => (11, 0, day, counter),
+            Event::DateChange { day, counter } => (11, 0, day, u64::from(counter)),
         };
         Fields {
             kind,

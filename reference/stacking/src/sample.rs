@@ -14,3 +14,11 @@ pub use call::call;
 pub use record::RecordMaker;
 pub use shuffle::shuffle;
 pub use tape::{tape, TapeOptions};
+
+/// A retailer of most random tapes and books, and one whose number has the same low
+/// 32 bits (02, change 7: they are told apart by the others).
+const USUAL_RETAILER: u64 = 101;
+const ENDS_ALIKE: u64 = USUAL_RETAILER + (1 << 32);
+
+/// A retailer whose low 32 bits are those of "none".
+const ENDS_LIKE_NONE: u64 = 1 << 32;

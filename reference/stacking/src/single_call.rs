@@ -207,11 +207,11 @@ impl<'a> Left<'a> {
     fn file(&mut self) -> Result<File, String> {
         let mut file = File {
             premise: self.eight()?,
-            retailer: self.four()?,
+            retailer: self.eight()?,
             since: self.two()?,
             order_count: self.byte()?,
             window: BusinessDays(self.byte()?),
-            agreement: self.four()?,
+            agreement: self.eight()?,
             moved_in: self.byte()?,
             ..File::EMPTY
         };
@@ -225,7 +225,7 @@ impl<'a> Left<'a> {
         Ok(Order {
             reference: self.four()?,
             kind: self.byte()?,
-            retailer: self.four()?,
+            retailer: self.eight()?,
             requested_day: self.two()?,
             scheduled_day: self.two()?,
             status: self.byte()?,

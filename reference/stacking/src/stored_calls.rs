@@ -8,6 +8,7 @@ mod clock;
 mod date_changes;
 mod days;
 mod evaluation;
+mod long_retailers;
 mod records;
 mod rows;
 mod well_kept;
@@ -36,6 +37,7 @@ pub fn all() -> Vec<Stored> {
         agreements::calls(),
         both_reads::calls(),
         windows::calls(),
+        long_retailers::calls(),
         clock::calls(),
         evaluation::calls(),
         rows::calls(),
@@ -49,13 +51,13 @@ const TODAY: u16 = 10;
 
 /// The premise, its retailer R and its S in most calls; Q of most orders.
 const PREMISE: u64 = 7;
-const HOLDER: u32 = 101;
+const HOLDER: u64 = 101;
 const SINCE: u16 = 3;
-const SUBMITTER: u32 = 202;
-const ANOTHER: u32 = 303;
+const SUBMITTER: u64 = 202;
+const ANOTHER: u64 = 303;
 
 /// C of the files with a service agreement.
-const LANDLORDS: u32 = 900;
+const LANDLORDS: u64 = 900;
 
 /// All days that the calls are about are business days, unless a call says
 /// otherwise. It is short, since it is stored with every call.
@@ -213,7 +215,7 @@ fn dated(counter: u32, order: Order) -> Order {
     Order { counter, ..order }
 }
 
-fn by(retailer: u32, order: Order) -> Order {
+fn by(retailer: u64, order: Order) -> Order {
     Order { retailer, ..order }
 }
 
@@ -225,11 +227,11 @@ fn own(entry: Entry) -> [u8; 24] {
     .to_bytes()
 }
 
-fn establish(retailer: u32) -> [u8; 24] {
+fn establish(retailer: u64) -> [u8; 24] {
     own(Entry::Agreement(Agreement::Establish { retailer }))
 }
 
-fn delete(retailer: u32) -> [u8; 24] {
+fn delete(retailer: u64) -> [u8; 24] {
     own(Entry::Agreement(Agreement::Delete { retailer }))
 }
 
@@ -237,11 +239,11 @@ fn mark(day: u16) -> [u8; 24] {
     Record::DayMark { day }.to_bytes()
 }
 
-fn create(since: u16, retailer: u32) -> [u8; 24] {
+fn create(since: u16, retailer: u64) -> [u8; 24] {
     create_with(since, retailer, 0)
 }
 
-fn create_with(since: u16, retailer: u32, window: u8) -> [u8; 24] {
+fn create_with(since: u16, retailer: u64, window: u8) -> [u8; 24] {
     own(Entry::Create(NewFile {
         since,
         retailer,
@@ -255,11 +257,15 @@ fn retire() -> [u8; 24] {
 
 /// A new order of another retailer than the held ones have.
 fn new_order(reference: u32, kind: u8, day: u16) -> [u8; 24] {
+    new_order_of(ANOTHER, reference, kind, day)
+}
+
+fn new_order_of(retailer: u64, reference: u32, kind: u8, day: u16) -> [u8; 24] {
     own(Entry::new_order(NewOrder {
         kind,
         day,
         reference,
-        retailer: ANOTHER,
+        retailer,
     }))
 }
 
@@ -284,12 +290,11 @@ fn read(reference: u32, day: u16) -> [u8; 24] {
 }
 
 fn cancel(reference: u32) -> [u8; 24] {
-    on_order(
-        reference,
-        Event::Cancel {
-            retailer: SUBMITTER,
-        },
-    )
+    cancel_by(SUBMITTER, reference)
+}
+
+fn cancel_by(retailer: u64, reference: u32) -> [u8; 24] {
+    on_order(reference, Event::Cancel { retailer })
 }
 
 fn accept(reference: u32) -> [u8; 24] {

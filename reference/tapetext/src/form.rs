@@ -36,12 +36,14 @@ pub(crate) const PREMISE: Field = Field {
 pub(crate) const RETAILER: Field = Field {
     name: "retailer",
     offset: 16,
-    width: 4,
+    width: 8,
 };
 
+/// A date change's, in the first half of the retailer's place.
 pub(crate) const COUNTER: Field = Field {
     name: "counter",
-    ..RETAILER
+    offset: 16,
+    width: 4,
 };
 
 impl Field {
@@ -228,5 +230,7 @@ mod tests {
         }
         assert_eq!(DAY.most(), 65_535);
         assert_eq!(PREMISE.most(), u64::MAX);
+        assert_eq!(RETAILER.most(), u64::MAX);
+        assert_eq!(COUNTER.most(), 4_294_967_295);
     }
 }

@@ -4,11 +4,11 @@ use agreement::pair::{pair, Change};
 use agreement::{by_the_sentence, compare, Agreement};
 
 /// A create of a premise for a retailer.
-fn create(premise: u64, retailer: u32) -> [u8; 24] {
+fn create(premise: u64, retailer: u64) -> [u8; 24] {
     let mut bytes = [0; 24];
     bytes[0] = 1;
     bytes[8..16].copy_from_slice(&premise.to_le_bytes());
-    bytes[16..20].copy_from_slice(&retailer.to_le_bytes());
+    bytes[16..24].copy_from_slice(&retailer.to_le_bytes());
     bytes
 }
 
@@ -57,6 +57,15 @@ fn the_smallest_premise_is_given() {
     expect(Agreement::Differ(1), &[last, five, one], &[]);
     expect(Agreement::Differ(5), &[last, five], &[]);
     expect(Agreement::Differ(u64::MAX), &[last, five], &[five]);
+}
+
+#[test]
+fn retailers_that_differ_beyond_32_bits_differ() {
+    let (short, long) = (create(5, 1), create(5, 4_294_967_297));
+    expect(Agreement::Differ(5), &[short], &[long]);
+    let (largest, too_large) = (create(5, 9_999_999_999_999), create(5, 10_000_000_000_000));
+    expect(Agreement::Differ(5), &[largest], &[]);
+    expect(Agreement::Same, &[too_large], &[]);
 }
 
 #[test]

@@ -12,7 +12,7 @@ use stacking::book::Book;
 use stacking::file::File;
 
 /// A book with a file of each premise, with its retailer.
-fn book(files: &[(u64, u32)]) -> Book {
+fn book(files: &[(u64, u64)]) -> Book {
     let mut book = Book::fresh(5);
     for (place, (premise, retailer)) in files.iter().enumerate() {
         let file = File::new(*premise, *retailer, 0);

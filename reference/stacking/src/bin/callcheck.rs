@@ -7,21 +7,21 @@
 //! written whether it is used or not:
 //!
 //! ```text
-//! book     12,099 bytes
+//! book     14,659 bytes
 //!   T                    2
 //!   number of files      1
-//!   64 files, each     189 bytes
+//!   64 files, each     229 bytes
 //!     P                  8
-//!     R                  4
+//!     R                  8
 //!     S                  2
 //!     number of orders   1
 //!     window             1
-//!     C                  4
+//!     C                  8
 //!     moved in           1
-//!     8 orders, each    21 bytes
+//!     8 orders, each    25 bytes
 //!       F                4
 //!       K                1
-//!       Q                4
+//!       Q                8
 //!       RD               2
 //!       SD               2
 //!       status           1

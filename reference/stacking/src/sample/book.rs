@@ -1,6 +1,7 @@
 //! Random books: well-kept ones that no tape reaches, and damaged ones.
 
 use super::record::day_near;
+use super::{ENDS_ALIKE, ENDS_LIKE_NONE, USUAL_RETAILER};
 use crate::book::{Book, FILES_A_BOOK};
 use crate::clock::{CANCEL_PENDING_WAIT, LONGEST_WAIT};
 use crate::days::{BusinessDays, CalendarDays, LAST_DAY, NO_DAY};
@@ -28,10 +29,26 @@ pub fn well_kept_book(random: &mut Random) -> Book {
 }
 
 fn well_kept_file(random: &mut Random, today: u16, premise: u64) -> File {
-    let retailer = random.pick(&[0, 101, 202, LARGEST_RETAILER]);
+    let retailer = random.pick(&[
+        0,
+        USUAL_RETAILER,
+        202,
+        ENDS_ALIKE,
+        ENDS_LIKE_NONE,
+        LARGEST_RETAILER,
+    ]);
     let mut file = File::new(premise, retailer, some_day(random, today));
     file.window = BusinessDays(random.pick(&[1, 2, 2, 3, 4, 5]));
-    file.agreement = random.pick(&[0, 0, 101, 404, LARGEST_RETAILER]);
+    file.agreement = random.pick(&[
+        0,
+        0,
+        0,
+        USUAL_RETAILER,
+        404,
+        ENDS_ALIKE,
+        ENDS_LIKE_NONE,
+        LARGEST_RETAILER,
+    ]);
     file.moved_in = random.below(2) as u8;
     file.order_count = random.pick(&[0, 1, 2, 3, 5, 7, 8, 8]);
     let first_reference = random.pick(&[1, 5, u32::MAX - ORDERS_A_FILE as u32]);
@@ -75,8 +92,8 @@ fn well_kept_order(random: &mut Random, today: u16, status: u8) -> Order {
     }
 }
 
-fn order_retailer(random: &mut Random) -> u32 {
-    random.pick(&[101, 202, 303, LARGEST_RETAILER])
+fn order_retailer(random: &mut Random) -> u64 {
+    random.pick(&[USUAL_RETAILER, 202, 303, ENDS_ALIKE, LARGEST_RETAILER])
 }
 
 fn some_day(random: &mut Random, today: u16) -> u16 {
@@ -149,6 +166,15 @@ fn odd_day(random: &mut Random) -> u16 {
     random.pick(&[0, LAST_DAY, NO_DAY, NO_DAY + 1, u16::MAX])
 }
 
-fn odd_retailer(random: &mut Random) -> u32 {
-    random.pick(&[0, 1, LARGEST_RETAILER, LARGEST_RETAILER + 1, u32::MAX])
+fn odd_retailer(random: &mut Random) -> u64 {
+    random.pick(&[
+        0,
+        1,
+        1_000_000_000,
+        ENDS_LIKE_NONE,
+        LARGEST_RETAILER,
+        LARGEST_RETAILER + 1,
+        1 << 63,
+        u64::MAX,
+    ])
 }

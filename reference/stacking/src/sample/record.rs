@@ -1,5 +1,6 @@
 //! Random records that suit the book they are for.
 
+use super::{ENDS_ALIKE, ENDS_LIKE_NONE, USUAL_RETAILER};
 use crate::book::Book;
 use crate::days::{LAST_DAY, NO_DAY};
 use crate::file::{File, NO_AGREEMENT};
@@ -12,7 +13,7 @@ use crate::record::{Agreement, Entry, Event, Fields, NewFile, NewOrder, Record, 
 /// and are taken; the rest meet one row or another.
 pub struct RecordMaker {
     premises: Vec<u64>,
-    retailers: Vec<u32>,
+    retailers: Vec<u64>,
     next_reference: u32,
     /// How often each sort of record comes.
     weights: [(usize, Sort); 8],
@@ -183,7 +184,7 @@ impl RecordMaker {
         }
     }
 
-    fn retailer_or_none(&self, random: &mut Random) -> u32 {
+    fn retailer_or_none(&self, random: &mut Random) -> u64 {
         match random.below(5) {
             0 => 0,
             _ => random.pick(&self.retailers),
@@ -224,10 +225,14 @@ fn premise_numbers(random: &mut Random, count: usize) -> Vec<u64> {
         .collect()
 }
 
-fn retailer_numbers(random: &mut Random) -> Vec<u32> {
-    let mut numbers = vec![101, 202, 303, LARGEST_RETAILER];
-    numbers.truncate(random.pick(&[1, 2, 3, 4]));
-    numbers
+/// Short numbers, numbers that end alike, or long ones.
+fn retailer_numbers(random: &mut Random) -> Vec<u64> {
+    let numbers = random.pick(&[
+        [USUAL_RETAILER, 202, 303, LARGEST_RETAILER],
+        [USUAL_RETAILER, ENDS_ALIKE, 303, LARGEST_RETAILER],
+        [LARGEST_RETAILER, ENDS_LIKE_NONE, USUAL_RETAILER, ENDS_ALIKE],
+    ]);
+    numbers[..random.from_to(1, 4) as usize].to_vec()
 }
 
 fn any_order<'a>(random: &mut Random, file: &'a File) -> Option<&'a Order> {
@@ -386,8 +391,9 @@ fn spoiled(random: &mut Random, mut fields: Fields) -> Fields {
         2 => fields.day = random.pick(&[NO_DAY, u16::MAX, 1]),
         3 => fields.reference = random.pick(&[0, 1]),
         4 => fields.premise = random.pick(&[0, 1]),
-        5 => fields.retailer = random.pick(&[0, 1, LARGEST_RETAILER + 1, u32::MAX]),
-        _ => fields.tail = random.pick(&[1, 1 << 31]),
+        5 => fields.retailer = random.pick(&[0, 1, LARGEST_RETAILER + 1, u64::MAX]),
+        // the last four bytes, the others as they are
+        _ => fields.retailer |= random.pick(&[1 << 32, 1 << 63]),
     }
     fields
 }

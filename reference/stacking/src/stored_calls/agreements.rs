@@ -43,7 +43,7 @@ fn records() -> Vec<Stored> {
         stored(
             "the largest retailer's agreement",
             &agreed,
-            establish(999_999_999),
+            establish(9_999_999_999_999),
         ),
         stored("an agreement is deleted", &agreed, delete(LANDLORDS)),
         stored(
@@ -133,7 +133,7 @@ fn malformed() -> Vec<Stored> {
             8,
             0,
         ),
-        with("row 3: an agreement with byte 20", establish(901), 20, 1),
+        with("row 3: an agreement with byte 23", establish(901), 23, 1),
         with("row 3: a deletion with a day", delete(LANDLORDS), 3, 1),
         with(
             "row 3: a deletion with a reference",
@@ -144,9 +144,9 @@ fn malformed() -> Vec<Stored> {
         stored("row 3: an agreement of retailer 0", &agreed, establish(0)),
         stored("row 3: a deletion of retailer 0", &[file(&[])], delete(0)),
         stored(
-            "row 3: an agreement of retailer 1,000,000,000",
+            "row 3: an agreement of retailer 10,000,000,000,000",
             &agreed,
-            establish(1_000_000_000),
+            establish(10_000_000_000_000),
         ),
     ]
 }

@@ -35,7 +35,7 @@ fn files() -> Vec<Stored> {
         premise: u64::MAX,
         entry: Entry::Create(NewFile {
             since: 4_095,
-            retailer: 999_999_999,
+            retailer: 9_999_999_999_999,
             window: 5,
         }),
     };
@@ -61,7 +61,7 @@ fn new_orders() -> Vec<Stored> {
         kind: MASS_TRANSITION_DROP,
         day: 4_095,
         reference: u32::MAX,
-        retailer: 999_999_999,
+        retailer: 9_999_999_999_999,
     }));
     let smallest = own(Entry::new_order(NewOrder {
         kind: MOVE_IN,

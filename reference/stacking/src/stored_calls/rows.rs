@@ -256,7 +256,12 @@ fn shares() -> Vec<Stored> {
     )];
     let ends_alike = [file(
         &(1..=4)
-            .map(|place| by(ANOTHER + (place << 16), in_review(place, MOVE_OUT)))
+            .map(|place| {
+                by(
+                    ANOTHER + (u64::from(place) << 16),
+                    in_review(place, MOVE_OUT),
+                )
+            })
             .collect::<Vec<Order>>(),
     )];
     let elsewhere = [
@@ -348,7 +353,7 @@ fn shares() -> Vec<Stored> {
 /// Rows 13 and 14.
 fn on_orders() -> Vec<Stored> {
     let one = |order| [file(&[in_review(9, MOVE_OUT), told(order)])];
-    let by_another = |reference| on_order(reference, Event::Cancel { retailer: ANOTHER });
+    let by_another = |reference| cancel_by(ANOTHER, reference);
     vec![
         stored(
             "row 13: no such reference",
@@ -363,7 +368,7 @@ fn on_orders() -> Vec<Stored> {
         stored(
             "row 13: a cancel by the premise's retailer",
             &one(in_review(1, MOVE_IN)),
-            on_order(1, Event::Cancel { retailer: HOLDER }),
+            cancel_by(HOLDER, 1),
         ),
         stored(
             "row 13 before row 14",

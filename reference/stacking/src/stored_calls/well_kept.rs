@@ -55,7 +55,7 @@ fn with_order(name: &'static str, status: usize, change: impl Fn(&mut Order)) ->
 fn kept() -> Vec<Stored> {
     let largest = Order {
         reference: u32::MAX,
-        retailer: 999_999_999,
+        retailer: 9_999_999_999_999,
         requested_day: 4_095,
         scheduled_day: 4_095,
         kind: MASS_TRANSITION_DROP,
@@ -80,9 +80,9 @@ fn kept() -> Vec<Stored> {
     };
     let mut most = file(&[1, 2, 3, 4, 5, 6, 7, u32::MAX].map(full));
     most.premise = u64::MAX;
-    most.retailer = 999_999_999;
+    most.retailer = 9_999_999_999_999;
     most.since = 4_095;
-    most.agreement = 999_999_999;
+    most.agreement = 9_999_999_999_999;
     most.moved_in = 1;
     most.window = BusinessDays(5);
     let last = book(4_094, &[File::new(1, 0, 0), most]);
@@ -130,6 +130,20 @@ fn kept() -> Vec<Stored> {
             book.files[0].agreement = 1;
             book.files[1].agreement = 1;
         }),
+        marked("well kept: R and C of ten digits", |book| {
+            book.files[0].retailer = 1_000_000_000;
+            book.files[2].agreement = 1_000_000_000;
+        }),
+        marked("well kept: R and C 4,294,967,296", |book| {
+            book.files[0].retailer = 1 << 32;
+            book.files[2].agreement = 1 << 32;
+        }),
+        with_order("well kept: Q 1,000,000,000", 1, |order| {
+            order.retailer = 1_000_000_000
+        }),
+        with_order("well kept: Q 4,294,967,296", 1, |order| {
+            order.retailer = 1 << 32
+        }),
         marked("well kept: one reference in two files", |book| {
             book.files[2].order_count = 1;
             book.files[2].orders[0] = in_review(1, MOVE_OUT);
@@ -160,12 +174,12 @@ fn heads() -> Vec<Stored> {
         marked("row 2: P falling at the start", |book| {
             book.files[0].premise = 8
         }),
-        marked("row 2: R 1,000,000,000", |book| {
-            book.files[1].retailer = 1_000_000_000
+        marked("row 2: R 10,000,000,000,000", |book| {
+            book.files[1].retailer = 10_000_000_000_000
         }),
         marked("row 2: S 4,096", |book| book.files[1].since = 4_096),
-        marked("row 2: C 1,000,000,000", |book| {
-            book.files[1].agreement = 1_000_000_000
+        marked("row 2: C 10,000,000,000,000", |book| {
+            book.files[1].agreement = 10_000_000_000_000
         }),
         marked("row 2: a window of 0", |book| book.files[1].window.0 = 0),
         marked("row 2: a window of 6", |book| book.files[0].window.0 = 6),
@@ -174,8 +188,17 @@ fn heads() -> Vec<Stored> {
         }),
         marked("row 2: a mark of 2", |book| book.files[1].moved_in = 2),
         marked("row 2: a mark of 255", |book| book.files[2].moved_in = 255),
-        marked("row 2: C 4,294,967,295", |book| {
-            book.files[0].agreement = u32::MAX
+        marked("row 2: the largest number as R", |book| {
+            book.files[0].retailer = u64::MAX
+        }),
+        marked("row 2: R with byte 7 set", |book| {
+            book.files[2].retailer |= 1 << 56
+        }),
+        marked("row 2: the largest number as C", |book| {
+            book.files[0].agreement = u64::MAX
+        }),
+        marked("row 2: C with byte 7 set", |book| {
+            book.files[2].agreement |= 1 << 56
         }),
         marked("row 2: a place too few is counted", |book| {
             book.files[1].order_count = 6
@@ -211,8 +234,14 @@ fn orders() -> Vec<Stored> {
         with_order("row 2: K 0", 1, |order| order.kind = 0),
         with_order("row 2: K 6", 1, |order| order.kind = 6),
         with_order("row 2: Q 0", 1, |order| order.retailer = 0),
-        with_order("row 2: Q 1,000,000,000", 1, |order| {
-            order.retailer = 1_000_000_000
+        with_order("row 2: Q 10,000,000,000,000", 1, |order| {
+            order.retailer = 10_000_000_000_000
+        }),
+        with_order("row 2: the largest number as Q", 1, |order| {
+            order.retailer = u64::MAX
+        }),
+        with_order("row 2: Q with byte 7 set", 6, |order| {
+            order.retailer |= 1 << 56
         }),
         with_order("row 2: RD 4,096", 1, |order| order.requested_day = NO_DAY),
         with_order("row 2: N 22", 1, |order| order.waited.0 = 22),
@@ -291,6 +320,9 @@ fn unused() -> Vec<Stored> {
         place("row 2: F in an unused place", |order| order.reference = 8),
         place("row 2: K in an unused place", |order| order.kind = 1),
         place("row 2: Q in an unused place", |order| order.retailer = 1),
+        place("row 2: the last byte of Q in an unused place", |order| {
+            order.retailer = 1 << 56
+        }),
         place("row 2: RD in an unused place", |order| {
             order.requested_day = 1
         }),
@@ -310,11 +342,17 @@ fn unused() -> Vec<Stored> {
         }),
         unused_file("row 2: P in an unused file", |file| file.premise = u64::MAX),
         unused_file("row 2: R in an unused file", |file| file.retailer = 1),
+        unused_file("row 2: the last byte of R in an unused file", |file| {
+            file.retailer = 1 << 56
+        }),
         unused_file("row 2: S in an unused file", |file| file.since = 1),
         unused_file("row 2: a window in an unused file", |file| {
             file.window.0 = 2
         }),
         unused_file("row 2: C in an unused file", |file| file.agreement = 1),
+        unused_file("row 2: the last byte of C in an unused file", |file| {
+            file.agreement = 1 << 56
+        }),
         unused_file("row 2: a mark in an unused file", |file| file.moved_in = 1),
         unused_file("row 2: a count in an unused file", |file| {
             file.order_count = 1

@@ -5,8 +5,8 @@ use stacking::order::status;
 use stacking::record::Entry;
 
 /// Holders of the service agreement, one after the other.
-const LANDLORDS: u32 = 900;
-const NEXT: u32 = 901;
+const LANDLORDS: u64 = 900;
+const NEXT: u64 = 901;
 
 /// Sends each record and sees its answer and the notices that it gives.
 fn played(desk: &mut Desk, records: &[(Entry, u8, &[Notice])]) {
@@ -17,7 +17,7 @@ fn played(desk: &mut Desk, records: &[(Entry, u8, &[Notice])]) {
 }
 
 /// A notice about the premise and none of its orders.
-fn of_premise_only(code: u8, addressee: u32) -> Notice {
+fn of_premise_only(code: u8, addressee: u64) -> Notice {
     (code, 0, 0, 0, addressee)
 }
 

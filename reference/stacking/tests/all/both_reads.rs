@@ -11,20 +11,20 @@ const SWITCH: u8 = 4;
 const DROP: u8 = 5;
 
 /// The premise's retailer, its since and the mark.
-fn supply(desk: &Desk) -> (u32, u16, u8) {
+fn supply(desk: &Desk) -> (u64, u16, u8) {
     let file = desk.file();
     (file.retailer, file.since, file.moved_in)
 }
 
 /// A desk on day 10 whose premise a retailer holds since a day.
-fn desk_since(since: u16, retailer: u32) -> Desk {
+fn desk_since(since: u16, retailer: u64) -> Desk {
     let mut desk = Desk::new(10);
     desk.take(&[Entry::Retire, create(since, retailer)]);
     desk
 }
 
 /// Sends an order, schedules it and reads it, all for one day.
-fn reads(desk: &mut Desk, reference: u32, kind: u8, retailer: u32, day: u16) {
+fn reads(desk: &mut Desk, reference: u32, kind: u8, retailer: u64, day: u16) {
     desk.take(&[
         new_order_of(retailer, kind, 40, reference),
         scheduled(reference, 12),

@@ -78,7 +78,7 @@ fn counters_rise() {
 
 /// Told, cancelled, scheduled anew further off: only so can an order be told and
 /// out of window.
-fn desk_with_a_told_order_far_off(holder: u32) -> Desk {
+fn desk_with_a_told_order_far_off(holder: u64) -> Desk {
     let mut desk = Desk::created_with(10, holder);
     desk.take(&[new_order(1, 20, 1), scheduled(1, 12)]);
     assert_eq!(desk.order(1).told, 1);

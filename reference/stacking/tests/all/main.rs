@@ -4,6 +4,7 @@ mod agreement;
 mod both_reads;
 mod date_change;
 mod demand_three;
+mod long_retailers;
 mod one_end;
 mod programs;
 mod record_call;

@@ -81,13 +81,11 @@ fn calls_are_read_as_they_were_written() {
 #[test]
 fn a_call_byte_by_byte() {
     let mut call = vec![5, 0, 1];
-    call.extend([
-        7, 0, 0, 0, 0, 0, 0, 0, 101, 0, 0, 0, 4, 0, 1, 3, 132, 3, 0, 0, 1,
-    ]);
-    call.extend([
-        9, 0, 0, 0, 1, 202, 0, 0, 0, 6, 0, 0, 16, 1, 2, 0, 0, 3, 1, 0, 0,
-    ]);
-    call.resize(12_099, 0);
+    call.extend([7, 0, 0, 0, 0, 0, 0, 0, 255, 159, 114, 78, 24, 9, 0, 0, 4, 0]);
+    call.extend([1, 3, 132, 3, 0, 0, 0, 0, 0, 0, 1]);
+    call.extend([9, 0, 0, 0, 1, 123, 16, 165, 212, 232, 0, 0, 0]);
+    call.extend([6, 0, 0, 16, 1, 2, 0, 0, 3, 1, 0, 0]);
+    call.resize(14_659, 0);
     call.extend([6, 0, 0, 0, 2, 2, 2, 2, 2, 0]);
     let scheduled = [
         4, 0, 8, 0, 9, 0, 0, 0, 7, 0, 0, 0, 0, 0, 0, 0, 0, 0, 0, 0, 0, 0, 0, 0,
@@ -96,12 +94,13 @@ fn a_call_byte_by_byte() {
     call.extend([24, 0, 0, 0]);
     call.extend(scheduled);
     call.extend([0, 96, 0, 0]);
-    let lines = "c 1 0 2\nn 3 1 8 9 7 202\nn 4 1 8 9 7 101\n\
-                 b 5 1\nf 0 7 101 4 1 3 900 1\no 0 0 9 1 202 6 8 3 2 0 1 259\n";
+    let lines = "c 1 0 2\nn 3 1 8 9 7 1000000000123\nn 4 1 8 9 7 9999999999999\n\
+                 b 5 1\nf 0 7 9999999999999 4 1 3 900 1\no 0 0 9 1 1000000000123 6 8 3 2 0 1 259\n";
     assert_eq!(text(CALLCHECK, "", &call), lines);
     // the same on a book that is damaged in an unused place
-    call[12_098] = 1;
-    let lines = "c 1 2 0\nb 5 1\nf 0 7 101 4 1 3 900 1\no 0 0 9 1 202 6 4096 1 2 0 0 259\n\
+    call[14_658] = 1;
+    let lines = "c 1 2 0\nb 5 1\nf 0 7 9999999999999 4 1 3 900 1\n\
+                 o 0 0 9 1 1000000000123 6 4096 1 2 0 0 259\n\
                  f 63 0 0 0 0 0 0 0\no 63 7 0 0 0 0 0 0 0 0 0 16777216\n";
     assert_eq!(text(CALLCHECK, "", &call), lines);
 }

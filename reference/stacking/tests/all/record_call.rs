@@ -16,7 +16,7 @@ fn take(book: &mut Book, buffer: &mut [u8], premise: u64, entry: Entry) {
 }
 
 /// Four orders of a full stack are one retailer's, four another's.
-fn submitter_of(reference: u32) -> u32 {
+fn submitter_of(reference: u32) -> u64 {
     if reference <= 4 {
         SUBMITTER
     } else {

@@ -10,7 +10,7 @@ use stacking::record::{decode, Entry, OrderEntry, Record, RECORD_BYTES};
 use stacking::sample::{self, TapeOptions};
 
 /// Answers to new orders for day 40 on a file with these orders, on day 10.
-fn asked(orders: &[Order], retailer: u32, kind: u8) -> u8 {
+fn asked(orders: &[Order], retailer: u64, kind: u8) -> u8 {
     let mut desk = Desk::with_file(10, business_days(), file_with(orders));
     let day = if kind == 3 { 0 } else { 40 };
     desk.send(new_order_of(retailer, kind, day, 99))
@@ -25,7 +25,7 @@ fn orders_of(kinds_and_statuses: &[(u8, u8)]) -> Vec<Order> {
     kinds_and_statuses.iter().enumerate().map(made).collect()
 }
 
-fn drop_of(retailer: u32, reference: u32) -> Entry {
+fn drop_of(retailer: u64, reference: u32) -> Entry {
     new_order_of(retailer, 5, 5, reference)
 }
 
@@ -47,7 +47,7 @@ fn two_retailers_hold_the_stack_and_a_third_meets_it() {
     ] {
         assert_eq!(desk.send(entry), answer, "{entry:?}");
     }
-    let held: Vec<(u32, u32, u8)> = desk
+    let held: Vec<(u32, u64, u8)> = desk
         .file()
         .held()
         .iter()
@@ -116,7 +116,13 @@ fn open_orders_of_every_kind_count_and_closed_ones_do_not() {
 #[test]
 fn orders_count_for_their_own_retailer_and_premise() {
     let orders = orders_of(&[(2, 1); 4]);
-    for other in [1, HOLDER, SUBMITTER - 1, SUBMITTER + 65_536] {
+    for other in [
+        1,
+        HOLDER,
+        SUBMITTER - 1,
+        SUBMITTER + 65_536,
+        SUBMITTER + (1 << 32),
+    ] {
         assert_eq!(asked(&orders, other, 1), 0, "{other}");
     }
     let mut desk = Desk::with_file(10, business_days(), file_with(&orders));
@@ -128,7 +134,7 @@ fn orders_count_for_their_own_retailer_and_premise() {
 }
 
 /// How many orders of a file are open, and how many of them a retailer's.
-fn open(file: &File, retailer: u32) -> (usize, usize) {
+fn open(file: &File, retailer: u64) -> (usize, usize) {
     let open = || file.held().iter().filter(|order| order.is_open());
     let of_retailer = open().filter(|order| order.retailer == retailer);
     (open().count(), of_retailer.count())

@@ -3,7 +3,8 @@
 use crate::support::*;
 use stacking::record::{decode, Fields, RECORD_BYTES};
 
-const LARGEST: u32 = 999_999_999;
+const LARGEST: u64 = 9_999_999_999_999;
+const LARGEST_COUNTER: u64 = 4_294_967_295;
 
 /// Which fields a kind of record uses.
 struct Use {
@@ -61,7 +62,7 @@ fn samples() -> Vec<Fields> {
             fields.reference = u32::from(is_used("reference", &fields));
             fields.premise = PREMISE * u64::from(is_used("premise", &fields));
             fields.retailer =
-                u32::from(is_used("retailer", &fields) || is_used("counter", &fields));
+                u64::from(is_used("retailer", &fields) || is_used("counter", &fields));
             samples.push(fields);
         }
     }
@@ -131,31 +132,51 @@ fn references_and_premises() {
     }
 }
 
-/// A create takes retailer 0 too. A counter stands in the retailer's place and
-/// may be larger than one.
+/// The largest number that a record's kind takes in bytes 16 to 23: a retailer, a
+/// counter in the first four of them, or nothing.
+fn largest(fields: &Fields) -> u64 {
+    match (is_used("retailer", fields), is_used("counter", fields)) {
+        (true, _) => LARGEST,
+        (_, true) => LARGEST_COUNTER,
+        _ => 0,
+    }
+}
+
+/// A create takes retailer 0 too.
 #[test]
 fn retailers_and_counters() {
+    let numbers = [
+        0,
+        1,
+        999_999_999,
+        1_000_000_000,
+        LARGEST_COUNTER,
+        LARGEST_COUNTER + 1,
+        LARGEST,
+        LARGEST + 1,
+        u64::MAX,
+    ];
     for fields in samples() {
-        let used = is_used("retailer", &fields);
-        let counts = is_used("counter", &fields);
-        for retailer in [0, 1, LARGEST, LARGEST + 1, u32::MAX] {
+        let largest = largest(&fields);
+        for retailer in numbers {
             let taken = match retailer {
-                0 => fields.kind == 1 || !(used || counts),
-                _ => counts || used && retailer <= LARGEST,
+                0 => fields.kind == 1 || largest == 0,
+                _ => retailer <= largest,
             };
             assert_eq!(well_formed(Fields { retailer, ..fields }), taken);
         }
     }
 }
 
+/// A bit of the last four bytes is part of a retailer and of nothing else.
 #[test]
-fn the_last_four_bytes_are_zero() {
+fn the_last_four_bytes_are_the_retailers() {
     for fields in samples() {
-        for bit in 0..32 {
-            assert!(!well_formed(Fields {
-                tail: 1 << bit,
-                ..fields
-            }));
+        for bit in 32..64 {
+            let retailer = fields.retailer | 1 << bit;
+            let taken = retailer <= largest(&fields);
+            assert_eq!(taken, is_used("retailer", &fields) && bit <= 43);
+            assert_eq!(well_formed(Fields { retailer, ..fields }), taken);
         }
     }
 }
@@ -183,6 +204,6 @@ fn low_byte_first() {
         (fields.reference, fields.premise),
         (0x0706_0504, 0x0F0E_0D0C_0B0A_0908)
     );
-    assert_eq!((fields.retailer, fields.tail), (0x1312_1110, 0x1716_1514));
+    assert_eq!(fields.retailer, 0x1716_1514_1312_1110);
     assert_eq!(fields.to_bytes(), bytes);
 }

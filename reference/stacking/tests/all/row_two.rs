@@ -138,7 +138,7 @@ fn premises_rise() {
 #[test]
 fn a_file_has_its_retailers_since_window_and_mark_in_range() {
     for place in 0..3 {
-        for retailer in [0, 1, 999_999_999] {
+        for retailer in [0, 1, 999_999_999, 1_000_000_000, 1 << 32, 9_999_999_999_999] {
             assert!(!answered_2(&with(
                 |book| book.files[place].retailer = retailer
             )));
@@ -146,7 +146,7 @@ fn a_file_has_its_retailers_since_window_and_mark_in_range() {
                 |book| book.files[place].agreement = retailer
             )));
         }
-        for retailer in [1_000_000_000, u32::MAX] {
+        for retailer in [10_000_000_000_000, 1 << 56, u64::MAX] {
             assert!(answered_2(&with(
                 |book| book.files[place].retailer = retailer
             )));
@@ -213,8 +213,12 @@ fn an_order_has_its_fields_in_range() {
             (0, true),
             (1, false),
             (999_999_999, false),
-            (1_000_000_000, true),
-            (u32::MAX, true),
+            (1_000_000_000, false),
+            (1 << 32, false),
+            (9_999_999_999_999, false),
+            (10_000_000_000_000, true),
+            (1 << 56, true),
+            (u64::MAX, true),
         ] {
             assert_eq!(
                 answered_2(&with_order(status, |held| held.retailer = retailer)),

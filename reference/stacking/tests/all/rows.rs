@@ -37,7 +37,7 @@ impl Case {
         self
     }
 
-    fn with_agreement(mut self, retailer: u32) -> Case {
+    fn with_agreement(mut self, retailer: u64) -> Case {
         self.book.files[0].agreement = retailer;
         self
     }

@@ -15,11 +15,11 @@ pub const PATTERN: u8 = 0xA5;
 pub const PREMISE: u64 = 7;
 
 /// The desk's retailer R at the start, the one that submits orders, and a third.
-pub const HOLDER: u32 = 101;
-pub const SUBMITTER: u32 = 202;
-pub const ANOTHER: u32 = 303;
+pub const HOLDER: u64 = 101;
+pub const SUBMITTER: u64 = 202;
+pub const ANOTHER: u64 = 303;
 
-pub const TDSP: u32 = 0;
+pub const TDSP: u64 = 0;
 pub const NONE: u16 = 4_096;
 
 pub fn business_days() -> Vec<u8> {
@@ -47,12 +47,12 @@ pub fn mark(day: u16) -> [u8; RECORD_BYTES] {
     Record::DayMark { day }.to_bytes()
 }
 
-pub fn create(since: u16, retailer: u32) -> Entry {
+pub fn create(since: u16, retailer: u64) -> Entry {
     create_with(since, retailer, 0)
 }
 
 /// With a window; 0 means two business days.
-pub fn create_with(since: u16, retailer: u32, window: u8) -> Entry {
+pub fn create_with(since: u16, retailer: u64, window: u8) -> Entry {
     Entry::Create(NewFile {
         since,
         retailer,
@@ -64,7 +64,7 @@ pub fn new_order(kind: u8, day: u16, reference: u32) -> Entry {
     new_order_of(SUBMITTER, kind, day, reference)
 }
 
-pub fn new_order_of(retailer: u32, kind: u8, day: u16, reference: u32) -> Entry {
+pub fn new_order_of(retailer: u64, kind: u8, day: u16, reference: u32) -> Entry {
     Entry::new_order(NewOrder {
         kind,
         day,
@@ -93,7 +93,7 @@ pub fn cancel(reference: u32) -> Entry {
     cancel_by(SUBMITTER, reference)
 }
 
-pub fn cancel_by(retailer: u32, reference: u32) -> Entry {
+pub fn cancel_by(retailer: u64, reference: u32) -> Entry {
     Entry::event(reference, Event::Cancel { retailer })
 }
 
@@ -109,20 +109,19 @@ pub fn date_change(reference: u32, day: u16, counter: u32) -> Entry {
     Entry::event(reference, Event::DateChange { day, counter })
 }
 
-pub fn establish(retailer: u32) -> Entry {
+pub fn establish(retailer: u64) -> Entry {
     Entry::Agreement(Agreement::Establish { retailer })
 }
 
-pub fn delete(retailer: u32) -> Entry {
+pub fn delete(retailer: u64) -> Entry {
     Entry::Agreement(Agreement::Delete { retailer })
 }
 
 /// A notice as code, kind, day, reference, addressee.
-pub type Notice = (u8, u8, u16, u32, u32);
+pub type Notice = (u8, u8, u16, u32, u64);
 
 pub fn notice(bytes: &[u8]) -> Notice {
     let fields = Fields::from_bytes(bytes.try_into().unwrap());
-    assert_eq!(fields.tail, 0);
     (
         fields.kind,
         fields.detail,
@@ -153,7 +152,7 @@ impl Desk {
     }
 
     /// The same with another retailer, or none.
-    pub fn created_with(start_day: u16, retailer: u32) -> Desk {
+    pub fn created_with(start_day: u16, retailer: u64) -> Desk {
         Desk::created(start_day, business_days(), create(0, retailer))
     }
 

@@ -84,7 +84,7 @@ fn a_date_change_goes_by_the_width() {
         let mut desk = desk_with(window);
         for (reference, day) in (1..).zip([11, 12, 13, 15, 16]) {
             desk.take(&[
-                new_order_of(200 + reference, 1, day, reference),
+                new_order_of(200 + u64::from(reference), 1, day, reference),
                 scheduled(reference, day),
             ]);
         }

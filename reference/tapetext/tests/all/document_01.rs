@@ -38,26 +38,28 @@ fn its_bytes_give_its_text() {
 /// One record of each form with fields that fill their width, by line and by
 /// bytes: kind and detail, day, reference, premise, retailer or counter.
 #[rustfmt::skip]
-const FORMS: [(&str, [u64; 6]); 20] = [
-    ("create premise 18446744073709551615 day 65535 retailer 4294967295", [1, 0, 65_535, 0, u64::MAX, 4_294_967_295]),
+const FORMS: [(&str, [u64; 6]); 22] = [
+    ("create premise 18446744073709551615 day 65535 retailer 18446744073709551615", [1, 0, 65_535, 0, u64::MAX, u64::MAX]),
     ("create premise 1 day 3 retailer 4 window 255", [1, 255, 3, 0, 1, 4]),
     ("retire premise 258", [2, 0, 0, 0, 258, 0]),
     ("move-in premise 1 reference 2 day 3 retailer 4", [3, 1, 3, 2, 1, 4]),
     ("move-out premise 1 reference 2 day 3 retailer 4", [3, 2, 3, 2, 1, 4]),
     ("standard-switch premise 1 reference 2 retailer 4", [3, 3, 0, 2, 1, 4]),
     ("standard-switch premise 1 reference 2 retailer 4 day 3", [3, 3, 3, 2, 1, 4]),
-    ("self-selected-switch premise 1 reference 2 day 3 retailer 4", [3, 4, 3, 2, 1, 4]),
+    ("self-selected-switch premise 1 reference 2 day 3 retailer 9999999999999", [3, 4, 3, 2, 1, 9_999_999_999_999]),
     ("drop premise 1 reference 2 day 3 retailer 4", [3, 5, 3, 2, 1, 4]),
     ("scheduled premise 1 reference 2 day 4096", [4, 0, 4_096, 2, 1, 0]),
     ("permit premise 1 reference 0", [5, 0, 0, 0, 1, 0]),
     ("unexecutable premise 0 reference 2", [6, 0, 0, 2, 0, 0]),
     ("read premise 1 reference 4294967295 day 258", [7, 0, 258, 4_294_967_295, 1, 0]),
     ("cancel premise 1 reference 2 retailer 0", [8, 0, 0, 2, 1, 0]),
+    ("cancel premise 1 reference 2 retailer 4294967297", [8, 0, 0, 2, 1, 4_294_967_297]),
     ("reply accept premise 1 reference 2", [9, 1, 0, 2, 1, 0]),
     ("reply reject premise 1 reference 2", [9, 2, 0, 2, 1, 0]),
     ("day 513", [10, 0, 513, 0, 0, 0]),
     ("date-change premise 1 reference 2 day 3 counter 4294967295", [11, 0, 3, 2, 1, 4_294_967_295]),
     ("establish premise 1 retailer 4", [12, 1, 0, 0, 1, 4]),
+    ("establish premise 1 retailer 10000000000000", [12, 1, 0, 0, 1, 10_000_000_000_000]),
     ("delete premise 1 retailer 4294967295", [12, 2, 0, 0, 1, 4_294_967_295]),
 ];
 
@@ -66,8 +68,7 @@ fn record([kind, detail, day, reference, premise, retailer]: [u64; 6]) -> Vec<u8
     bytes.extend_from_slice(&(day as u16).to_le_bytes());
     bytes.extend_from_slice(&(reference as u32).to_le_bytes());
     bytes.extend_from_slice(&premise.to_le_bytes());
-    bytes.extend_from_slice(&(retailer as u32).to_le_bytes());
-    bytes.extend_from_slice(&[0; 4]);
+    bytes.extend_from_slice(&retailer.to_le_bytes());
     bytes
 }
 

@@ -95,6 +95,12 @@ fn each_row_has_its_words() {
              detail or a field is out of range, or an unused field is not zero",
         ),
         (
+            "move-in premise 8 reference 1 day 3 retailer 10000000000000",
+            3,
+            "move in, premise 8, reference 1, day 3, retailer 10000000000000: its length is not \
+             24, its kind, detail or a field is out of range, or an unused field is not zero",
+        ),
+        (
             "retire premise 8",
             4,
             "retire, premise 8: there is no such premise",
@@ -145,6 +151,12 @@ fn each_row_has_its_words() {
             26,
             "mass transition drop, premise 8, reference 1, retailer 5: its retailer has 4 or more \
              open orders at the premise",
+        ),
+        (
+            "cancel premise 8 reference 1 retailer 1000000000123",
+            13,
+            "cancel, premise 8, reference 1, retailer 1000000000123: there is no such reference, \
+             or on a cancel the order is another retailer's",
         ),
         (
             "cancel premise 8 reference 1 retailer 5",
@@ -230,8 +242,8 @@ fn flats_without_a_retailer_stand_before_the_last_line() {
                     premise 3: no retailer since day 9\n\
                     premise 18446744073709551615: no retailer since day 0\nt 0 0\n";
     assert_eq!(explained.as_deref(), Ok(expected));
-    let all_supplied = explain(&empty, "p 4 5 6\nt 0 0\n");
-    let expected = "p 4 5 6\nno flat is without a retailer\nt 0 0\n";
+    let all_supplied = explain(&empty, "p 4 5 6\np 5 4294967296 6\nt 0 0\n");
+    let expected = "p 4 5 6\np 5 4294967296 6\nno flat is without a retailer\nt 0 0\n";
     assert_eq!(all_supplied.as_deref(), Ok(expected));
 }
 

@@ -4,11 +4,11 @@
 use tapetext::{decode, encode, Tape, CALENDAR_DAYS, RECORD_BYTES};
 
 #[rustfmt::skip]
-const WORDS: [&str; 29] = [
+const WORDS: [&str; 30] = [
     "calendar", "absent", "9", "days,", "holiday", "day-kind", "2..3", "3..2", "create", "retire",
     "move-in", "reply", "accept", "day", "days", "raw", "0a", "premise", "reference", "retailer",
     "#", "7", "99999999999999999999", "\u{e9}", "date-change", "counter",
-    "establish", "delete", "window",
+    "establish", "delete", "window", "9999999999999",
 ];
 
 /// SplitMix64: a seed gives the same tapes on every machine.
@@ -37,7 +37,7 @@ impl Random {
         let mut record = vec![0; RECORD_BYTES];
         record[0] = self.below(14) as u8;
         record[1] = self.below(7) as u8;
-        for field in [2..4, 4..8, 8..16, 16..20] {
+        for field in [2..4, 4..8, 8..16, 16..20, 20..24] {
             if self.below(3) > 0 {
                 let filled = self.bytes(field.len());
                 record[field].copy_from_slice(&filled);
@@ -190,6 +190,25 @@ fn a_record_is_in_words_exactly_where_they_give_its_bytes() {
         assert_eq!(!line(&record).starts_with("raw"), in_words, "byte {place}");
     }
     assert!(line(&well_formed[..23]).starts_with("raw"));
+}
+
+/// Every byte of a retailer's field is in words; of a counter's only the first four.
+#[test]
+fn long_retailers_are_in_words_and_long_counters_are_not() {
+    for (kind, detail, widest) in [(1, 0, 24), (3, 4, 24), (8, 0, 24), (12, 2, 24), (11, 0, 20)] {
+        for place in 16..RECORD_BYTES {
+            let mut records = vec![0; RECORD_BYTES];
+            (records[0], records[1], records[16]) = (kind, detail, 1);
+            records[place] ^= 64;
+            let tape = Tape {
+                calendar: None,
+                records,
+            };
+            assert_inverse(&tape);
+            let text = decode(&tape).unwrap();
+            assert_eq!(text.contains("raw"), place >= widest, "{text}");
+        }
+    }
 }
 
 #[test]

@@ -84,9 +84,9 @@ fn numbers_that_do_not_fit_their_field() {
             "4294967295",
         ),
         (
-            "create premise 1 day 0 retailer 4294967296",
-            "retailer 4294967296",
-            "4294967295",
+            "create premise 1 day 0 retailer 18446744073709551616",
+            "retailer 18446744073709551616",
+            "18446744073709551615",
         ),
         ("days 1..65536", "day 65536", "65535"),
         (

@@ -14,7 +14,9 @@ use stacking::first_in;
 use stacking::notice::{NoticeWriter, NOTICE_BUFFER_BYTES, TDSP};
 use stacking::order::{kind, status, Order};
 use stacking::premise;
-use stacking::record::{decode, Entry, Event, Fields, NewOrder, OrderEntry, Record, RECORD_BYTES};
+use stacking::record::{
+    decode, Agreement, Entry, Event, Fields, NewOrder, OrderEntry, Record, RECORD_BYTES,
+};
 use std::collections::HashSet;
 use std::io::{self, Write};
 
@@ -57,6 +59,21 @@ const KINDS: [&str; 13] = [
     "12 agreement",
 ];
 
+/// The largest retailer without a suffix.
+const NINE_DIGITS: u64 = 999_999_999;
+
+/// Records that name a retailer with a suffix and are taken.
+const LONG_RETAILERS: [&str; 4] = ["create", "new order", "cancel", "agreement"];
+
+/// What would come out otherwise if the low 32 bits of retailers were compared.
+const ENDS_ALIKE: [&str; 5] = [
+    "answer 13 to a cancel by a retailer that ends like Q",
+    "answer 18 to a delete by a retailer that ends like C",
+    "notice 10 to a retailer that ends like the new one",
+    "notice 4 to a retailer that ends like Q",
+    "no answer 26 for four orders of retailers that end like Q",
+];
+
 /// A pass of the evaluation.
 type Pass = fn(&mut File, &[u8], u16, &mut NoticeWriter);
 
@@ -92,6 +109,14 @@ pub struct Coverage {
     decided_by_window: u64,
     /// Records but a scheduling and a mark that told of a move out.
     told_later: u64,
+    /// By place in [`LONG_RETAILERS`].
+    long_retailers: [u64; LONG_RETAILERS.len()],
+    /// Notices to a retailer with a suffix.
+    long_addressees: u64,
+    /// Date changes with a counter and more behind it.
+    long_counters: u64,
+    /// By place in [`ENDS_ALIKE`].
+    ends_alike: [u64; ENDS_ALIKE.len()],
     branches: [u64; BRANCHES.len()],
     /// By pass: did not act, acted.
     passes: [[u64; 2]; 4],
@@ -117,13 +142,18 @@ impl Coverage {
         for record in tape.chunks(RECORD_BYTES) {
             let before = book.clone();
             let (answer, count) = record_call(&mut book, calendar, record, &mut buffer);
-            self.count_call(record, answer, &buffer[..count * RECORD_BYTES]);
+            let notices = &buffer[..count * RECORD_BYTES];
+            self.count_call(record, answer, notices);
             let Some(record) = decode(record) else {
+                self.count_long_counter(record);
                 continue;
             };
             self.count_table(&before, calendar, &record, answer);
             self.count_share(&before, &record, answer);
+            self.count_ends_alike(&before, &record, answer);
             if answer == Answer::Accepted {
+                self.count_long_retailer(&record);
+                self.count_losers(&book, notices);
                 self.count_steps(&before, calendar, &record);
                 self.count_created_again(&record, &mut retired);
             }
@@ -142,6 +172,7 @@ impl Coverage {
             let notice = Fields::from_bytes(notice.try_into().expect("chunks are 24 bytes"));
             let of_move_out = notice.detail == kind::MOVE_OUT;
             self.codes[usize::from(notice.kind) - 1] += 1;
+            self.long_addressees += u64::from(notice.retailer > NINE_DIGITS);
             self.new_dates_told += u64::from(notice.kind == 9 && notice.retailer != TDSP);
             self.agreements_told += u64::from(place == 1 && notice.kind == 7 && of_move_out);
             self.told_later += u64::from(notice.kind == 12 && !matches!(record_kind, 4 | 10));
@@ -193,6 +224,70 @@ impl Coverage {
         {
             let full = file_of(before, premise).is_full_of_open_orders();
             self.shares[usize::from(full)] += 1;
+        }
+    }
+
+    fn count_long_counter(&mut self, record: &[u8]) {
+        if let Ok(bytes) = record.try_into() {
+            let fields = Fields::from_bytes(bytes);
+            let is_long = fields.retailer > u64::from(u32::MAX) && fields.retailer as u32 != 0;
+            self.long_counters += u64::from(fields.kind == 11 && is_long);
+        }
+    }
+
+    fn count_long_retailer(&mut self, record: &Record) {
+        if let Record::OfPremise { entry, .. } = *record {
+            let place = match entry {
+                Entry::Create(_) => 0,
+                Entry::Order(OrderEntry::New(_)) => 1,
+                Entry::Order(_) => 2,
+                _ => 3,
+            };
+            let is_long = named_retailer(&entry).is_some_and(|retailer| retailer > NINE_DIGITS);
+            self.long_retailers[place] += u64::from(is_long);
+        }
+    }
+
+    /// Rows 13, 18 and 26, and notice 10.
+    fn count_ends_alike(&mut self, before: &Book, record: &Record, answer: Answer) {
+        let Record::OfPremise { premise, entry } = *record else {
+            return;
+        };
+        let (Some(retailer), Ok(place)) = (named_retailer(&entry), before.place_of(premise)) else {
+            return;
+        };
+        let file = &before.files[place];
+        let alike = |other| u64::from(ends_alike(retailer, other));
+        match (entry, answer) {
+            (Entry::Order(OrderEntry::Event { reference, .. }), Answer::NoSuchOrder) => {
+                let order = file.place_of(reference).map(|place| &file.orders[place]);
+                self.ends_alike[0] += order.map_or(0, |order| alike(order.retailer));
+            }
+            (Entry::Agreement(Agreement::Delete { .. }), Answer::AgreementOfAnother) => {
+                self.ends_alike[1] += alike(file.agreement);
+            }
+            (Entry::Agreement(Agreement::Establish { .. }), Answer::Accepted) => {
+                self.ends_alike[2] += alike(file.agreement);
+            }
+            (Entry::Order(OrderEntry::New(_)), Answer::Accepted) => {
+                let open = file.held().iter().filter(|order| order.is_open());
+                let like = open.filter(|order| order.retailer as u32 == retailer as u32);
+                self.ends_alike[4] += u64::from(like.count() >= 4);
+            }
+            _ => {}
+        }
+    }
+
+    /// Notices 4, whose order is among those held afterwards.
+    fn count_losers(&mut self, after: &Book, notices: &[u8]) {
+        for notice in notices.chunks_exact(RECORD_BYTES) {
+            let notice = Fields::from_bytes(notice.try_into().expect("chunks are 24 bytes"));
+            if notice.kind == 4 {
+                let file = file_of(after, notice.premise);
+                let place = file.place_of(notice.reference).expect("the order is held");
+                let alike = ends_alike(notice.retailer, file.orders[place].retailer);
+                self.ends_alike[3] += u64::from(alike);
+            }
         }
     }
 
@@ -314,6 +409,20 @@ impl Coverage {
         ] {
             lines.push((name.into(), count));
         }
+        for (name, &count) in LONG_RETAILERS.iter().zip(&self.long_retailers) {
+            lines.push((format!("{name} of a retailer with a suffix"), count));
+        }
+        lines.push((
+            "notice to a retailer with a suffix".into(),
+            self.long_addressees,
+        ));
+        lines.push((
+            "date change with a counter and more behind it".into(),
+            self.long_counters,
+        ));
+        for (name, &count) in ENDS_ALIKE.iter().zip(&self.ends_alike) {
+            lines.push(((*name).into(), count));
+        }
         for (name, &count) in BRANCHES.iter().zip(&self.branches) {
             lines.push((format!("clock: {name}"), count));
         }
@@ -382,6 +491,26 @@ fn with_writer<T>(step: impl FnOnce(&mut NoticeWriter) -> T) -> T {
 fn file_of(book: &Book, premise: u64) -> &File {
     let file = book.held().iter().find(|file| file.premise == premise);
     file.expect("the record came past row 4")
+}
+
+/// The retailer that a record names, if its kind does.
+fn named_retailer(entry: &Entry) -> Option<u64> {
+    match *entry {
+        Entry::Create(new) => Some(new.retailer),
+        Entry::Order(OrderEntry::New(new)) => Some(new.retailer),
+        Entry::Order(OrderEntry::Event { event, .. }) => match event {
+            Event::Cancel { retailer } => Some(retailer),
+            _ => None,
+        },
+        Entry::Agreement(Agreement::Establish { retailer }) => Some(retailer),
+        Entry::Agreement(Agreement::Delete { retailer }) => Some(retailer),
+        Entry::Retire => None,
+    }
+}
+
+/// Two retailers whose numbers have the same low 32 bits.
+fn ends_alike(one: u64, other: u64) -> bool {
+    one != other && one as u32 == other as u32
 }
 
 /// The order that a record is about, and what happens to it.

@@ -8,14 +8,6 @@ use stacking::record::Entry;
 const LANDLORDS: u64 = 900;
 const NEXT: u64 = 901;
 
-/// Sends each record and sees its answer and the notices that it gives.
-fn played(desk: &mut Desk, records: &[(Entry, u8, &[Notice])]) {
-    for (entry, answer, notices) in records {
-        assert_eq!(desk.send(*entry), *answer, "{entry:?}");
-        assert_eq!(desk.notices, *notices, "{entry:?}");
-    }
-}
-
 /// A notice about the premise and none of its orders.
 fn of_premise_only(code: u8, addressee: u64) -> Notice {
     (code, 0, 0, 0, addressee)

@@ -19,14 +19,6 @@ const PAIRS: [(u64, u64); 4] = [
     (LARGEST - (1 << 32), LARGEST),
 ];
 
-/// Sends each record and sees its answer and the notices that it gives.
-fn played(desk: &mut Desk, records: &[(Entry, u8, &[Notice])]) {
-    for (entry, answer, notices) in records {
-        assert_eq!(desk.send(*entry), *answer, "{entry:?}");
-        assert_eq!(desk.notices, *notices, "{entry:?}");
-    }
-}
-
 /// A flat that one retailer of 13 digits loses to another.
 #[test]
 fn a_flat_goes_from_one_long_number_to_another() {

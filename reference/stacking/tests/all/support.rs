@@ -231,6 +231,14 @@ impl Desk {
     }
 }
 
+/// Sends each record and sees its answer and the notices that it gives.
+pub fn played(desk: &mut Desk, records: &[(Entry, u8, &[Notice])]) {
+    for (entry, answer, notices) in records {
+        assert_eq!(desk.send(*entry), *answer, "{entry:?}");
+        assert_eq!(desk.notices, *notices, "{entry:?}");
+    }
+}
+
 /// An order in any state, in the document's order of fields: reference, kind,
 /// requested day, scheduled day, status. The submitter's, nothing waited.
 pub fn order(reference: u32, kind: u8, requested: u16, scheduled: u16, status: u8) -> Order {

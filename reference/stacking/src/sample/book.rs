@@ -174,7 +174,7 @@ fn odd_retailer(random: &mut Random) -> u64 {
         ENDS_LIKE_NONE,
         LARGEST_RETAILER,
         LARGEST_RETAILER + 1,
-        1 << 63,
+        USUAL_RETAILER + (1 << 63),
         u64::MAX,
     ])
 }

@@ -2,6 +2,7 @@
 
 use super::{ENDS_ALIKE, ENDS_LIKE_NONE, USUAL_RETAILER};
 use crate::book::Book;
+use crate::clock::LONGEST_WAIT;
 use crate::days::{LAST_DAY, NO_DAY};
 use crate::file::{File, NO_AGREEMENT};
 use crate::order::{kind, status, Order, LARGEST_RETAILER};
@@ -196,6 +197,7 @@ impl RecordMaker {
     fn malformed(&mut self, random: &mut Random, book: &Book) -> [u8; RECORD_BYTES] {
         let sort = random.pick(&[
             Sort::Create,
+            Sort::Retire,
             Sort::NewOrder,
             Sort::AnyEvent,
             Sort::Agreement,
@@ -238,10 +240,21 @@ fn retailer_numbers(random: &mut Random) -> Vec<u64> {
 fn any_order<'a>(random: &mut Random, file: &'a File) -> Option<&'a Order> {
     let held = file.held();
     let open: Vec<&Order> = held.iter().filter(|order| order.is_open()).collect();
+    if let Some(order) = open.iter().find(|order| has_waited_longest(order)) {
+        if random.chance(1, 3) {
+            return Some(order);
+        }
+    }
     if !open.is_empty() && random.chance(9, 10) {
         return Some(random.pick(&open));
     }
     (!held.is_empty()).then(|| &held[random.below(held.len())])
+}
+
+/// A permit did not come. There are few days to reject the cancellation, and only so
+/// does an order In Review have the longest wait.
+fn has_waited_longest(order: &Order) -> bool {
+    order.status == status::CANCEL_PENDING && order.waited == LONGEST_WAIT
 }
 
 /// A day a few days before or after another.
@@ -327,6 +340,7 @@ fn fitting_event(random: &mut Random, today: u16, file: &File, order: &Order) ->
         status::SCHEDULED if is_move && is_far => random.pick(&[6, 7, 8, 11, 11, 11]),
         status::SCHEDULED if is_move => random.pick(&[6, 7, 7, 8, 8, 8, 11]),
         status::SCHEDULED => random.pick(&[6, 7, 7, 8, 8]),
+        status::CANCEL_PENDING if has_waited_longest(order) => random.pick(&[4, 9, 10, 10, 10]),
         // told, and then put off: only so is a told order out of window
         status::CANCEL_PENDING if is_move && order.told == 1 => random.pick(&[4, 4, 4, 9, 10]),
         status::CANCEL_PENDING => random.pick(&[4, 6, 9, 9, 10, 10, 10]),

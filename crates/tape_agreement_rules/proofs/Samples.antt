@@ -6,15 +6,15 @@ use mathlib.Core.Bool.{true, false≢true}
 use native.Mathlib.Omega.{arith}
 use Rattle.lists.specs.Search.{Each}
 use Rattle.records.specs.Layout.{fieldOf}
-use Rattle.records.specs.Records.{wellFormed, reading}
-use Rattle.records.specs.Notices.{encode}
+use Rattle.records.specs.Records.{wellFormedBy, readingBy}
+use Rattle.records.specs.Notices.{encodeBy}
 use Rattle.premise.specs.Orders.{places}
-use Rattle.premise.specs.WellKept.{orderKept, isBlank, fileKept, fileBlank}
+use Rattle.premise.specs.WellKept.{orderKeptBy, isBlank, fileKeptBy, fileBlank}
 use Rattle.premise.specs.Refusals.{number, premiseRows, orderRows}
 use Rattle.premise.specs.OnePremise.{steppedWith, stepWith}
 use Rattle.book.specs.declared.Book.{Book}
-use Rattle.book.specs.Book.{bookOf, bookKept, freshBook, fileFor, putIn, takenOut}
-use Rattle.book.specs.Calls.{callRowsWith, callWith}
+use Rattle.book.specs.Book.{bookOf, bookKeptBy, bookKept, freshBook, fileFor, putIn, takenOut}
+use Rattle.book.specs.Calls.{callRowsBy, callBy}
 use Rattle.book.proofs.Kept.{fresh-kept}
 use Rattle.book.proofs.Keeps.{call-keeps}
 use Rattle.book.proofs.Row6.{answered-full}
@@ -28,7 +28,7 @@ use Rattle.tape_agreement_rules.specs.Samples.{joined, sample, shuffled,
 use Rattle.tape_agreement_rules.proofs.Books.{yes-means-equal-books}
 
 pub samples : allHold ≡ true
-unfolding fieldOf wellFormed reading create7 create5 order7 order5 scheduled7 scheduled5 mark1 malformed saysYes numberGiven agreement
+unfolding fieldOf wellFormedBy readingBy create7 create5 order7 order5 scheduled7 scheduled5 mark1 malformed saysYes numberGiven agreement
 samples = refl
 
 -- ---- the theorem applied
@@ -65,7 +65,7 @@ record Tapes : Type 0 where
   same : Compared (joined sample) (joined shuffled) Same
 
 tapes : Tapes
-unfolding fieldOf wellFormed reading create7 create5 order7 order5 scheduled7 scheduled5 mark1 malformed agreement
+unfolding fieldOf wellFormedBy readingBy create7 create5 order7 order5 scheduled7 scheduled5 mark1 malformed agreement
 tapes = record {
   first = record { real = refl; few = omega arith };
   cut = refl;
@@ -87,6 +87,6 @@ equal =
     (short-calls (joined shuffled) shuffled (tapes .second) (tapes .cut₂))
 
 pub comes : Comes
-unfolding places number premiseRows orderRows steppedWith stepWith orderKept isBlank fileKept fileBlank fieldOf encode wellFormed reading
-    bookOf bookKept fileFor putIn takenOut callRowsWith callWith lent made plays
+unfolding places number premiseRows orderRows steppedWith stepWith orderKeptBy isBlank fileKeptBy fileBlank fieldOf encodeBy wellFormedBy readingBy
+    bookOf bookKeptBy fileFor putIn takenOut callRowsBy callBy lent made plays
 comes = record { same = tapes .same; books = equal; room = refl; full = refl; left = refl; fewer = refl }

@@ -1,21 +1,13 @@
 // A record's fields, each read from its bytes.
 ghost use mathlib.Core.Path.{_≡_};
 ghost use lib.ListN.{length};
-ghost use Rattle.records.specs.Layout.{recordLength, zeroField, fieldOf};
+ghost use Rattle.records.specs.Layout.{recordLength};
 ghost use Rattle.records.specs.Records.{fieldsOf};
 use crate::numbers::eight;
 use crate::numbers::four;
 use crate::numbers::two;
 use records::Record;
 use records::field_at;
-
-// What a record's last four bytes hold.
-pub fn zero_field_of(bytes: &[u8]) -> u32
-    requires { ⌜ length (now bytes) ≡ recordLength ⌝ }
-    ensures { λ r. ⌜ r ≡ fieldOf zeroField (now (bytes .entry)) ⌝ }
-{
-    four(bytes, field_at::ZERO)
-}
 
 // A record's fields.
 pub fn fields_of(bytes: &[u8]) -> Record
@@ -28,6 +20,6 @@ pub fn fields_of(bytes: &[u8]) -> Record
         day: two(bytes, field_at::DAY),
         reference: four(bytes, field_at::REFERENCE),
         premise: eight(bytes, field_at::PREMISE),
-        retailer: four(bytes, field_at::RETAILER),
+        retailer: eight(bytes, field_at::RETAILER),
     }
 }

@@ -33,6 +33,5 @@ pub fn write_notice(buffer: &mut [u8], notice: Notice)
     put(buffer, field_at::DAY, 2, notice.day as u64);
     put(buffer, field_at::REFERENCE, 4, notice.reference as u64);
     put(buffer, field_at::PREMISE, 8, notice.premise);
-    put(buffer, field_at::RETAILER, 4, notice.addressee as u64);
-    put(buffer, field_at::ZERO, 4, 0);
+    put(buffer, field_at::RETAILER, 8, notice.addressee);
 }

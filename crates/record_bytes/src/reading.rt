@@ -6,7 +6,6 @@ ghost use Rattle.records.specs.Layout.{recordLength};
 ghost use Rattle.records.specs.Records.{reading};
 ghost use Rattle.records.specs.Notices.{decode};
 use crate::fields::fields_of;
-use crate::fields::zero_field_of;
 use crate::well_formed::well_formed;
 use records::Notice;
 use records::RECORD_LENGTH;
@@ -17,9 +16,6 @@ pub fn read_record(bytes: &[u8]) -> Reading
     ensures { λ r. ⌜ r ≡ reading (now (bytes .entry)) ⌝ }
 {
     if bytes.len() != RECORD_LENGTH {
-        return Reading::Malformed;
-    }
-    if zero_field_of(bytes) != 0 {
         return Reading::Malformed;
     }
     let record = fields_of(bytes);

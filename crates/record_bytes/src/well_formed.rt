@@ -7,6 +7,7 @@ use days::LAST_DAY;
 use days::MOST_WIDTH;
 use records::DELETE;
 use records::ESTABLISH;
+use records::LAST_COUNTER;
 use records::LAST_RETAILER;
 use records::REPLY_ACCEPT;
 use records::REPLY_REJECT;
@@ -26,7 +27,7 @@ fn dated_holds(fields: Record) -> bool
 }
 
 // Whether a number is a retailer's.
-fn is_retailer(number: u32) -> bool
+fn is_retailer(number: u64) -> bool
     ensures { λ r. ⌜ r ≡ aRetailer number ⌝ }
 {
     (1 <= number) & (number <= LAST_RETAILER)
@@ -78,8 +79,8 @@ fn order_day_holds(kind: u8, day: u16) -> bool
 }
 
 // Dispatch on the record kind. A create uses the detail, its window, the day, the premise, and a retailer or none; a retire the premise; a
-// new order every field, its detail the order kind; a day mark the day; a date change all but the detail, with a counter, which is not 0,
-// in the retailer's place; an agreement the premise and the retailer, its detail whether it is established or deleted.
+// new order every field, its detail the order kind; a day mark the day; a date change all but the detail, with a counter of 32
+// bits, which is not 0, in the retailer's place; an agreement the premise and the retailer, its detail whether it is established or deleted.
 pub fn well_formed(fields: Record) -> bool
     ensures { λ r. ⌜ r ≡ wellFormed fields ⌝ }
 {
@@ -120,7 +121,7 @@ pub fn well_formed(fields: Record) -> bool
                 & (fields.day <= LAST_DAY)
                 & (fields.reference != 0)
                 & (fields.premise != 0)
-                & (fields.retailer != 0)
+                & ((1 <= fields.retailer) & (fields.retailer <= LAST_COUNTER))
         },
         record_kind::AGREEMENT => {
             (ESTABLISH <= fields.detail)

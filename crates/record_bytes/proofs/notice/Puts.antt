@@ -8,7 +8,7 @@ use lib.ListN.{length, take, drop, set, length-set, take-append-drop}
 use lib.Seq.{take-at, drop-at, drop-drop}
 use Rattle.records.specs.declared.Notice.{Notice}
 use Rattle.records.specs.Layout.{recordLength, bytesOf}
-use Rattle.records.specs.Notices.{encode}
+use Rattle.records.specs.Notices.{encodeBy, encode}
 
 -- so many bytes of a number, from a place on
 abbrev put : ℕ → ℕ → ℕ → List ℕ → List ℕ
@@ -67,26 +67,23 @@ put-behind done new before b after at width k e p =
     p ∙ ap₂ (λ (l r : List ℕ). l ++ new ++ r) front rest
 
 -- A notice's fields, one behind another, make up its bytes.
-pub put-notice : (n : Notice) (b code kind day reference premise addressee zeros : List ℕ)
+pub put-notice : (n : Notice) (b code kind day reference premise addressee : List ℕ)
     → code ≡ take 0 b ++ bytesOf 1 (n .code) ++ drop 1 b
     → kind ≡ take 1 code ++ bytesOf 1 (n .kind) ++ drop 2 code
     → day ≡ take 2 kind ++ bytesOf 2 (n .day) ++ drop 4 kind
     → reference ≡ take 4 day ++ bytesOf 4 (n .reference) ++ drop 8 day
     → premise ≡ take 8 reference ++ bytesOf 8 (n .premise) ++ drop 16 reference
-    → addressee ≡ take 16 premise ++ bytesOf 4 (n .addressee) ++ drop 20 premise
-    → zeros ≡ take 20 addressee ++ bytesOf 4 0 ++ drop 24 addressee
-    → zeros ≡ encode n ++ drop recordLength b
-unfolding encode
-put-notice n b code kind day reference premise addressee zeros e f g h k l m =
+    → addressee ≡ take 16 premise ++ bytesOf 8 (n .addressee) ++ drop 24 premise
+    → addressee ≡ encode n ++ drop recordLength b
+unfolding encodeBy
+put-notice n b code kind day reference premise addressee e f g h k l =
     let one = bytesOf 1 (n .code) in
     let two = one ++ bytesOf 1 (n .kind) in
     let four = two ++ bytesOf 2 (n .day) in
     let eight = four ++ bytesOf 4 (n .reference) in
     let sixteen = eight ++ bytesOf 8 (n .premise) in
-    let twenty = sixteen ++ bytesOf 4 (n .addressee) in
-    put-behind twenty (bytesOf 4 0) b addressee zeros 20 4 refl
-    (put-behind sixteen (bytesOf 4 (n .addressee)) b premise addressee 16 4 refl
+    put-behind sixteen (bytesOf 8 (n .addressee)) b premise addressee 16 8 refl
     (put-behind eight (bytesOf 8 (n .premise)) b reference premise 8 8 refl
     (put-behind four (bytesOf 4 (n .reference)) b day reference 4 4 refl
     (put-behind two (bytesOf 2 (n .day)) b kind day 2 2 refl
-    (put-behind one (bytesOf 1 (n .kind)) b code kind 1 1 refl e f) g) h) k) l) m
+    (put-behind one (bytesOf 1 (n .kind)) b code kind 1 1 refl e f) g) h) k) l

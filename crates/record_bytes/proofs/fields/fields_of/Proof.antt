@@ -22,8 +22,8 @@ four-requires c κs = search needs
 eight-requires : tie.Need-eight-requires
 eight-requires c κs = search needs
 
-four-requires-2 : tie.Need-four-requires-2
-four-requires-2 c κs = search needs
+eight-requires-2 : tie.Need-eight-requires-2
+eight-requires-2 c κs = search needs
 
 returns : tie.Need-returns
 unfolding fieldOf
@@ -38,7 +38,7 @@ returns c =
       day = day .two .ensures i;
       reference = c .before .before .four .ensures i;
       premise = c .before .eight .ensures i;
-      retailer = c .four2 .ensures i;
+      retailer = c .eight2 .ensures i;
     }
 
 pub fields-of-spec : {M : Type 1} → statement M
@@ -50,5 +50,5 @@ fields-of-spec =
     two-requires
     four-requires
     eight-requires
-    four-requires-2
+    eight-requires-2
     returns)

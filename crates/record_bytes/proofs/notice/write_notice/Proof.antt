@@ -32,37 +32,15 @@ put-requires-4 c κs = search needs
 put-requires-5 : tie.Need-put-requires-5
 put-requires-5 c κs = search needs
 
-cast-put-5 : tie.Need-cast-put-5
-cast-put-5 c = search needs
-
 put-requires-6 : tie.Need-put-requires-6
 put-requires-6 c κs =
-    let s5 = c .before .before .before .before in
+    let s5 = c .before .before .before in
     let s4 = s5 .before .before .before .before in
     let s3 = s4 .before .before .before .before .before in
     let s2 = s3 .before .before .before .before .before in
     let s1 = s2 .before .before .before .before .before in
     omega (
       arith,
-      s5 .put5 .kept .0,
-      s4 .put4 .kept .0,
-      s3 .put3 .kept .0,
-      s2 .put2 .kept .0,
-      s1 .put .kept .0,
-      s1 .before .before .before .before .pre,
-    )
-
-put-requires-7 : tie.Need-put-requires-7
-put-requires-7 c κs =
-    let s6 = c .before .before .before in
-    let s5 = s6 .before .before .before .before .before in
-    let s4 = s5 .before .before .before .before in
-    let s3 = s4 .before .before .before .before .before in
-    let s2 = s3 .before .before .before .before .before in
-    let s1 = s2 .before .before .before .before .before in
-    omega (
-      arith,
-      s6 .put6 .kept .0,
       s5 .put5 .kept .0,
       s4 .put4 .kept .0,
       s3 .put3 .kept .0,
@@ -73,16 +51,14 @@ put-requires-7 c κs =
 
 same-length : tie.Need-same-length
 same-length c =
-    let s7 = c .before .before in
-    let s6 = s7 .before .before .before .before in
-    let s5 = s6 .before .before .before .before .before in
+    let s6 = c .before .before in
+    let s5 = s6 .before .before .before .before in
     let s4 = s5 .before .before .before .before in
     let s3 = s4 .before .before .before .before .before in
     let s2 = s3 .before .before .before .before .before in
     let s1 = s2 .before .before .before .before .before in
     omega (
       arith,
-      s7 .put7 .kept .0,
       s6 .put6 .kept .0,
       s5 .put5 .kept .0,
       s4 .put4 .kept .0,
@@ -93,9 +69,8 @@ same-length c =
 
 returns : tie.Need-returns
 returns c =
-    let s7 = c .before .before in
-    let s6 = s7 .before .before .before .before in
-    let s5 = s6 .before .before .before .before .before in
+    let s6 = c .before .before in
+    let s5 = s6 .before .before .before .before in
     let s4 = s5 .before .before .before .before in
     let s3 = s4 .before .before .before .before .before in
     let s2 = s3 .before .before .before .before .before in
@@ -103,9 +78,7 @@ returns c =
     let a = s1 .before .before .before .before .args in
     put-notice (a .notice) (a .buffer .now)
     (s1 .put .last .0) (s2 .put2 .last .0) (s3 .put3 .last .0) (s4 .put4 .last .0) (s5 .put5 .last .0) (s6 .put6 .last .0)
-    (s7 .put7 .last .0)
     (s1 .put .ensures) (s2 .put2 .ensures) (s3 .put3 .ensures) (s4 .put4 .ensures) (s5 .put5 .ensures) (s6 .put6 .ensures)
-    (s7 .put7 .ensures)
 
 pub write-notice-spec : {M : Type 1} → statement M
 write-notice-spec =
@@ -120,8 +93,6 @@ write-notice-spec =
     cast-put-4
     put-requires-4
     put-requires-5
-    cast-put-5
     put-requires-6
-    put-requires-7
     same-length
     returns)

@@ -42,7 +42,7 @@ returns-4 c =
     rw (formed-at kindDayMark (arm .before .args .fields) (arm .match .keys4)) refl
 
 returns-5 : tie.Need-returns-5
-returns-5 c = sym (formed-at kindDateChange _ (c .before .before .before .before .before .match .keys5))
+returns-5 c = sym (formed-at kindDateChange _ (c .before .before .before .before .before .before .match .keys5))
 
 returns-6 : tie.Need-returns-6
 returns-6 c = rw (c .is-retailer2 .ensures) (sym (formed-at kindAgreement _ (omega arith)))

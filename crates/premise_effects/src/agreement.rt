@@ -14,7 +14,7 @@ use records::Record;
 fn send_on_agreement(
     code: u8,
     premise: u64,
-    addressee: u32,
+    addressee: u64,
     standing: usize,
     buffer: &mut [u8],
 ) -> usize
@@ -28,8 +28,8 @@ fn send_on_agreement(
 // Where an agreement is with another retailer than the one that is named, that retailer hears of it.
 fn tell_earlier_holder(
     premise: u64,
-    agreement: u32,
-    named: u32,
+    agreement: u64,
+    named: u64,
     standing: usize,
     buffer: &mut [u8],
 ) -> usize

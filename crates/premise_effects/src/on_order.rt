@@ -111,7 +111,7 @@ fn code_of(kind: u8, detail: u8) -> u8
 }
 
 // Whom a record's notice goes to: the TDSP for a cancel, else the submitting retailer.
-fn addressee_of(kind: u8, retailer: u32) -> u32
+fn addressee_of(kind: u8, retailer: u64) -> u64
     ensures { λ addressee. ⌜ addressee ≡ addresseeOf kind retailer ⌝ }
 {
     if kind == record_kind::CANCEL {
@@ -122,7 +122,7 @@ fn addressee_of(kind: u8, retailer: u32) -> u32
 }
 
 // The retailer that has been told of a told order: that of the owner's agreement of a move out, else the premise's own.
-fn told_retailer(kind: u8, retailer: u32, agreement: u32) -> u32
+fn told_retailer(kind: u8, retailer: u64, agreement: u64) -> u64
     ensures { λ told. ⌜ told ≡ cond (eqb kind moveOut) agreement retailer ⌝ }
 {
     if kind == records::order_kind::MOVE_OUT {

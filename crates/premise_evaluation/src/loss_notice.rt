@@ -12,7 +12,7 @@ use records::order_kind::MOVE_OUT;
 
 // Whether an order is Scheduled and in window, and a retailer is still to be told of it. Of a move out there is one to be told only where
 // there is an agreement.
-pub fn is_due(last: u16, agreement: u32, o: Order) -> bool
+pub fn is_due(last: u16, agreement: u64, o: Order) -> bool
     ensures { λ r. ⌜ r ≡ isDue (upTo last) agreement o ⌝ }
 {
     (o.status == premise::SCHEDULED)
@@ -25,8 +25,8 @@ pub fn is_due(last: u16, agreement: u32, o: Order) -> bool
 pub fn tell_losing_retailer(
     last: u16,
     premise: u64,
-    retailer: u32,
-    agreement: u32,
+    retailer: u64,
+    agreement: u64,
     o: Order,
     standing: usize,
     buffer: &mut [u8],

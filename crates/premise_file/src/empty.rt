@@ -28,7 +28,7 @@ fn blank_order() -> Order
 }
 
 // A file without orders, agreement and mark.
-fn empty_file(premise: u64, retailer: u32, since: u16, window: u8) -> File
+fn empty_file(premise: u64, retailer: u64, since: u16, window: u8) -> File
     ensures { λ r. ⌜ r ≡ record {
       premise = premise;
       retailer = retailer;

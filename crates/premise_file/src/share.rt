@@ -8,7 +8,7 @@ use premise::File;
 use premise::Order;
 
 // What an order counts for a retailer: 1 where it is open and the retailer's.
-fn counts_for(o: Order, retailer: u32) -> usize
+fn counts_for(o: Order, retailer: u64) -> usize
     ensures { λ n. ⌜ n ≡ cond (isOpenOf retailer o) 1 0 ⌝ }
 {
     if crate::open::is_open(o) & (o.submitter == retailer) {
@@ -18,7 +18,7 @@ fn counts_for(o: Order, retailer: u32) -> usize
 }
 
 // Whether a retailer has four or more open orders in a file.
-pub fn is_share_full(file: File, retailer: u32) -> bool
+pub fn is_share_full(file: File, retailer: u64) -> bool
     requires { ⌜ Tidy file ⌝ }
     ensures { λ r. ⌜ r ≡ leb mostOfOne (openOf retailer (held file)) ⌝ }
 {

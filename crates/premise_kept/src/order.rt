@@ -49,4 +49,5 @@ pub fn order_kept(o: Order) -> bool
         & (o.waited.0 <= premise::MOST_WAITED)
         & pending_fits(o)
         & (o.told <= 1)
+        & (o.counter <= records::LAST_COUNTER)
 }

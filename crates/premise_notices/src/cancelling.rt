@@ -11,7 +11,7 @@ use premise::OrderAfter;
 // Sends an order's notice 5, the cancellation, to an addressee.
 pub fn send_cancel(
     premise: u64,
-    addressee: u32,
+    addressee: u64,
     o: Order,
     standing: usize,
     buffer: &mut [u8],
@@ -37,7 +37,7 @@ pub fn as_cancelled(o: Order) -> Order
 // Cancels an order, with notices to the TDSP and then to an addressee.
 pub fn cancel(
     premise: u64,
-    addressee: u32,
+    addressee: u64,
     o: Order,
     standing: usize,
     buffer: &mut [u8],

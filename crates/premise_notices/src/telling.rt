@@ -8,7 +8,7 @@ use premise::OrderAfter;
 pub fn tell(
     code: u8,
     premise: u64,
-    addressee: u32,
+    addressee: u64,
     o: Order,
     standing: usize,
     buffer: &mut [u8],

@@ -32,7 +32,7 @@ pub const CODE_AGREEMENT_RESPONSE: u8 = 11;
 pub const CODE_AGREEMENT_MOVE_IN: u8 = 12;
 
 // A notice on an order. Its day is the requested one where the order is new or its date is changed, and else the scheduled one.
-pub fn notice_on(code: u8, premise: u64, addressee: u32, o: Order) -> Notice
+pub fn notice_on(code: u8, premise: u64, addressee: u64, o: Order) -> Notice
     ensures { λ r. ⌜ r ≡ notice code premise addressee o ⌝ }
 {
     let day = day_in(code, o);
@@ -56,7 +56,7 @@ fn day_in(code: u8, o: Order) -> u16
 }
 
 // A notice on a premise's agreement, which is on no order.
-pub fn notice_of_no_order(code: u8, premise: u64, addressee: u32) -> Notice
+pub fn notice_of_no_order(code: u8, premise: u64, addressee: u64) -> Notice
     ensures { λ r. ⌜ r ≡ noticeOfNoOrder code premise addressee ⌝ }
 {
     Notice {

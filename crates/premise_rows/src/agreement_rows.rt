@@ -4,7 +4,7 @@ ghost use Rattle.premise_rows.specs.AgreementRows.{deletesAnother};
 use records::Record;
 
 // Row 18: whether a delete names a retailer other than the one of the file's agreement.
-pub fn deletes_another(agreement: u32, r: Record) -> bool
+pub fn deletes_another(agreement: u64, r: Record) -> bool
     ensures { λ b. ⌜ b ≡ deletesAnother agreement r ⌝ }
 {
     (r.detail == records::DELETE) & (r.retailer != agreement)

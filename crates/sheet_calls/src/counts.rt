@@ -31,7 +31,7 @@ fn in_range(first: u64, last: u64, premise: u64) -> u32
 }
 
 // What a file in a range adds to the dark ones: 1 if it has no retailer.
-fn if_dark(retailer: u32, counted: u32) -> u32
+fn if_dark(retailer: u64, counted: u32) -> u32
     ensures { λ r. ⌜ r ≡ cond (eqb retailer noRetailer) counted 0 ⌝ }
 {
     if retailer == premise::NOBODY {

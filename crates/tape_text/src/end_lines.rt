@@ -11,7 +11,7 @@ const FILE: u8 = b'p';
 const TOTAL: u8 = b't';
 
 // The line of a file: its premise, its retailer, and the day since which the retailer holds.
-pub fn put_file(premise: u64, retailer: u32, since: u16, start: usize, out: &mut [u8]) -> usize
+pub fn put_file(premise: u64, retailer: u64, since: u16, start: usize, out: &mut [u8]) -> usize
     requires { ⌜ start + length (fileLine premise retailer since) ≤ length (now out) ⌝ }
     ensures { λ r. ⌜ Puts start (now (out .entry)) (now (out .exit)) r (fileLine premise retailer since) ⌝ }
 {

@@ -14,7 +14,7 @@ use Rattle.premise.specs.Refusals.{number}
 use Rattle.book.specs.declared.Book.{Book}
 use Rattle.book.specs.declared.Reply.{Reply}
 use Rattle.book.specs.Book.{bookKept}
-use Rattle.book.specs.Calls.{noticeBytes, callRows, Result, refusal, call, callRowsWith, callWith}
+use Rattle.book.specs.Calls.{noticeBytes, callRows, Result, refusal, call, callRowsBy, callBy}
 use Rattle.book.specs.Promise.{Promised}
 use Rattle.book.proofs.ByReading.{call-malformed}
 use Rattle.book.proofs.Rows.{refusing}
@@ -22,12 +22,12 @@ use Rattle.book.proofs.Rows.{refusing}
 module _ (calendar : List ℕ) (b : Book) (bytes lent : List ℕ) where
   -- row 1
   pub call-short : length lent < noticeBytes → call calendar b bytes lent ≡ refusal ShortBuffer b
-  unfolding callWith callRowsWith
+  unfolding callBy callRowsBy
   call-short h = rw (lt-ltb (length lent) noticeBytes h, ne-eqb (number ShortBuffer) 0 (refusing ShortBuffer refl))
 
   -- row 2
   pub call-unkept : noticeBytes ≤ length lent → bookKept b ≡ false → call calendar b bytes lent ≡ refusal NotWellKept b
-  unfolding callWith callRowsWith
+  unfolding callBy callRowsBy
   call-unkept h k = rw (le-ltb (length lent) noticeBytes h, k, ne-eqb (number NotWellKept) 0 (refusing NotWellKept refl))
 
   -- row 3, by the length

@@ -15,7 +15,7 @@ use Rattle.days.specs.Days.{lastDay, isDay}
 use Rattle.premise.specs.declared.File.{File}
 use Rattle.premise.specs.WellKept.{fileKept, fileBlank}
 use Rattle.book.specs.declared.Book.{Book}
-use Rattle.book.specs.Book.{mostFiles, filesOf, risesFrom, bookKept}
+use Rattle.book.specs.Book.{mostFiles, filesOf, risesFrom, bookKeptBy, bookKept}
 
 -- ---- the files held: well kept, and their numbers rise from above a number
 abbrev pub heldKept : ℕ → List File → Bool
@@ -42,15 +42,15 @@ one-fails false kept rising rest h = refl
 
 module _ (b : Book) where
   pub no-day : lastDay < b .today → bookKept b ≡ false
-  unfolding bookKept
+  unfolding bookKeptBy
   no-day h = rw (lt-leb (b .today) lastDay h)
 
   pub too-many : mostFiles < b .count → bookKept b ≡ false
-  unfolding bookKept
+  unfolding bookKeptBy
   too-many h = rw (lt-leb (b .count) mostFiles h, and-false (isDay (b .today)))
 
   pub held-fails : heldKept 0 (filesOf b) ≡ false → bookKept b ≡ false
-  unfolding bookKept
+  unfolding bookKeptBy
   held-fails h =
       one-fails (isDay (b .today) && leb (b .count) mostFiles && eqb (length (b .files)) mostFiles) (allOf fileKept (filesOf b))
       (risesFrom 0 (filesOf b)) (allOf fileBlank (drop (b .count) (b .files))) h
@@ -58,7 +58,7 @@ module _ (b : Book) where
   -- the places after the files decide where the other parts passed
   pub unused-decide : b .today ≤ lastDay → b .count ≤ mostFiles → length (b .files) ≡ mostFiles → heldKept 0 (filesOf b) ≡ true
       → bookKept b ≡ allOf fileBlank (drop (b .count) (b .files))
-  unfolding bookKept
+  unfolding bookKeptBy
   unused-decide day few long held =
       rw (
         le-leb (b .today) lastDay day,

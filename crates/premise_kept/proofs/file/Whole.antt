@@ -12,7 +12,7 @@ use Rattle.days.specs.Window.{mostWidth}
 use Rattle.records.specs.Records.{aPremise, aRetailerOrNone}
 use Rattle.premise.specs.declared.File.{File}
 use Rattle.premise.specs.Orders.{mostOrders, held}
-use Rattle.premise.specs.WellKept.{orderKept, distinct, isBlank, fileKept}
+use Rattle.premise.specs.WellKept.{orderKept, distinct, isBlank, fileKeptBy, fileKept}
 
 module _ (f : File) where
   -- the fields besides the orders and their number
@@ -30,19 +30,19 @@ module _ (f : File) where
 
   -- ---- the whole: a part that fails
   pub kept-no-head : not headKept ≡ true → false ≡ fileKept f
-  unfolding fileKept
+  unfolding fileKeptBy
   kept-no-head e = rw (not-true headKept e)
 
   pub kept-no-orders : allOf orderKept (held f) ≡ false → fileKept f ≡ false
-  unfolding fileKept
+  unfolding fileKeptBy
   kept-no-orders e = rw (e, and-false (headKept && eqb (length (f .orders)) mostOrders))
 
   pub kept-no-references : distinct (held f) ≡ false → fileKept f ≡ false
-  unfolding fileKept
+  unfolding fileKeptBy
   kept-no-references e = rw (e, and-false (headKept && eqb (length (f .orders)) mostOrders && allOf orderKept (held f)))
 
   -- the places after the orders decide where the other parts passed
   pub kept-rest : length (f .orders) ≡ mostOrders → not headKept ≡ false → allOf orderKept (held f) ≡ true → distinct (held f) ≡ true
       → fileKept f ≡ allOf isBlank (drop (f .count) (f .orders))
-  unfolding fileKept
+  unfolding fileKeptBy
   kept-rest eight h o d = rw (not-false headKept h, eq-eqb (length (f .orders)) mostOrders eight, o, d)

@@ -5,11 +5,11 @@ use mathlib.Core.Bool.{Bool, true, false, not, _&&_, _||_}
 use lib.Dec.{eqb, leb}
 use borrow.Author.Tests.{ne-eqb}
 use Rattle.days.specs.Days.{lastDay, noDay, isDay}
-use Rattle.records.specs.Records.{aReference, aRetailer, anOrderKind}
+use Rattle.records.specs.Records.{lastCounter, aReference, aRetailer, anOrderKind}
 use Rattle.premise.specs.declared.Order.{Order}
 use Rattle.premise.specs.Orders.{inReview, permitPending, scheduled, cancelPending, complete, unexecutable, hasStatus}
 use Rattle.premise.specs.Clock.{mostWaited, mostPending}
-use Rattle.premise.specs.WellKept.{dayFits, permitFits, pendingFits, orderKept}
+use Rattle.premise.specs.WellKept.{dayFits, permitFits, pendingFits, orderKeptBy, orderKept}
 
 module _ (o : Order) where
   -- ---- the scheduled day
@@ -44,7 +44,8 @@ module _ (o : Order) where
       && leb (o .waited .0) mostWaited
       && pending
       && leb (o .told) 1
+      && leb (o .counter) lastCounter
 
   pub fields-kept : (day pending : Bool) → day ≡ dayFits o → pending ≡ pendingFits o → fields day pending ≡ orderKept o
-  unfolding orderKept
+  unfolding orderKeptBy
   fields-kept day pending d p = rw (d, p)

@@ -12,8 +12,9 @@ pending-fits-requires c κs = search needs
 
 returns : tie.Need-returns
 returns c =
-    let d = c .before .before .before in
-    fields-kept (d .before .before .before .args .o) _ _ (d .day-fits .ensures) (c .before .pending-fits .ensures)
+    let p = c .before .before in
+    let d = p .before .before in
+    fields-kept (d .before .before .before .args .o) _ _ (d .day-fits .ensures) (p .pending-fits .ensures)
 
 pub order-kept-spec : {M : Type 1} → statement M
 order-kept-spec = tie.close (tie.spec day-fits-requires pending-fits-requires returns)

@@ -12,54 +12,54 @@ use record_bytes::four;
 use record_bytes::two;
 use record_bytes::wide;
 
-const ORDER_BYTES: usize = 21;
+const ORDER_BYTES: usize = 25;
 
 // a file: its head, and 8 orders
-const HEAD_BYTES: usize = 21;
+const HEAD_BYTES: usize = 29;
 
-const FILE_BYTES: usize = 189;
+const FILE_BYTES: usize = 229;
 
 // a book: its head of 3 bytes, and 64 files
-pub const BOOK_BYTES: usize = 12_099;
+pub const BOOK_BYTES: usize = 14_659;
 
-// An order, from its 21 bytes.
+// An order, from its 25 bytes.
 fn order_from(bytes: &[u8], at: usize) -> Order
-    requires { ⌜ at + 21 ≤ length (now bytes) ⌝ }
+    requires { ⌜ at + 25 ≤ length (now bytes) ⌝ }
 {
-    let waited = BusinessDays(bytes[at + 14]);
-    let pending = CalendarDays(bytes[at + 15]);
+    let waited = BusinessDays(bytes[at + 18]);
+    let pending = CalendarDays(bytes[at + 19]);
     Order {
         reference: four(bytes, at),
         kind: bytes[at + 4],
-        submitter: four(bytes, at + 5),
-        requested: two(bytes, at + 9),
-        scheduled: two(bytes, at + 11),
-        status: bytes[at + 13],
+        submitter: eight(bytes, at + 5),
+        requested: two(bytes, at + 13),
+        scheduled: two(bytes, at + 15),
+        status: bytes[at + 17],
         waited: waited,
         pending: pending,
-        told: bytes[at + 16],
-        counter: four(bytes, at + 17),
+        told: bytes[at + 20],
+        counter: four(bytes, at + 21) as u64,
     }
 }
 
-// A file with no order yet, from the 21 bytes of its head.
+// A file with no order yet, from the 29 bytes of its head.
 fn head_from(bytes: &[u8], at: usize) -> File
-    requires { ⌜ at + 21 ≤ length (now bytes) ⌝ }
+    requires { ⌜ at + 29 ≤ length (now bytes) ⌝ }
 {
     let mut file = premise_file::blank_file();
     file.premise = eight(bytes, at);
-    file.retailer = four(bytes, at + 8);
-    file.since = two(bytes, at + 12);
-    file.count = wide(bytes[at + 14]) as usize;
-    file.window = bytes[at + 15];
-    file.agreement = four(bytes, at + 16);
-    file.entered = bytes[at + 20];
+    file.retailer = eight(bytes, at + 8);
+    file.since = two(bytes, at + 16);
+    file.count = wide(bytes[at + 18]) as usize;
+    file.window = bytes[at + 19];
+    file.agreement = eight(bytes, at + 20);
+    file.entered = bytes[at + 28];
     file
 }
 
-// A file, from its 189 bytes.
+// A file, from its 229 bytes.
 fn file_from(bytes: &[u8], at: usize) -> File
-    requires { ⌜ at + 189 ≤ length (now bytes) ⌝ }
+    requires { ⌜ at + 229 ≤ length (now bytes) ⌝ }
 {
     let mut file = head_from(bytes, at);
     let mut i: usize = 0;
@@ -73,9 +73,9 @@ fn file_from(bytes: &[u8], at: usize) -> File
     file
 }
 
-// A book, from its 12,099 bytes.
+// A book, from its 14,659 bytes.
 pub fn book_from(bytes: &[u8]) -> Book
-    requires { ⌜ 12099 ≤ length (now bytes) ⌝ }
+    requires { ⌜ 14659 ≤ length (now bytes) ⌝ }
 {
     let mut b = book_files::empty(two(bytes, 0));
     b.count = wide(bytes[2]) as usize;

@@ -28,7 +28,7 @@ fn say_notice(buffer: &[u8], at: usize)
             notice.day as u64,
             notice.reference as u64,
             notice.premise,
-            notice.addressee as u64,
+            notice.addressee,
         ],
     );
 }
@@ -74,14 +74,14 @@ fn say_order(file_place: usize, place: usize, o: Order) {
             place as u64,
             o.reference as u64,
             o.kind as u64,
-            o.submitter as u64,
+            o.submitter,
             o.requested as u64,
             o.scheduled as u64,
             o.status as u64,
             waited.0 as u64,
             pending.0 as u64,
             o.told as u64,
-            o.counter as u64,
+            o.counter,
         ],
     );
 }
@@ -93,11 +93,11 @@ fn say_file(place: usize, f: File) {
         &[
             place as u64,
             f.premise,
-            f.retailer as u64,
+            f.retailer,
             f.since as u64,
             f.count as u64,
             f.window as u64,
-            f.agreement as u64,
+            f.agreement,
             f.entered as u64,
         ],
     );

@@ -17,7 +17,7 @@ const STRETCH_RECORDS: usize = 64;
 
 const STRETCH_NOTICES: usize = 49_152;
 
-const STRETCH_TEXT: usize = 131_072;
+const STRETCH_TEXT: usize = 147_456;
 
 // A stretch of a tape, its records played by one loop over them or by a record call each: both promise the same.
 fn stretch_by(

@@ -46,7 +46,7 @@ notice-line x fits =
       decimal-below 4 (x .day) (omega (arith, fits .day)),
       decimal-below 9 (x .reference) (omega (arith, fits .reference)),
       decimal-within (x .premise),
-      decimal-below 9 (x .addressee) (omega (arith, fits .addressee)),
+      decimal-within (x .addressee),
     )
 
 -- what is read from bytes fits its fields
@@ -62,7 +62,7 @@ file-line premise retailer since r s =
       spaced-more retailer (since ∷ []),
       spaced-more since [],
       decimal-within premise,
-      decimal-below 9 retailer (omega arith),
+      decimal-below 12 retailer (omega arith),
       decimal-below 4 since (omega arith),
     )
 

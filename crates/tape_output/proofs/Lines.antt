@@ -86,7 +86,7 @@ file-lines-most (f ∷ fs) k =
       arith,
       length-append (fileLine (f .premise) (f .retailer) (f .since)) (fileLines fs),
       file-line (f .premise) (f .retailer) (f .since)
-          (omega (arith, leb-true (f .retailer) lastRetailer (k .0 .retailer)))
+          (leb-true (f .retailer) lastRetailer (k .0 .retailer))
           (omega (arith, leb-true (f .since) lastDay (k .0 .since))),
       file-lines-most fs (k .1),
     )

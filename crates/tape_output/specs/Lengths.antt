@@ -4,6 +4,7 @@ use Prim.Native.Nat.{ℕ, _≤_, _<_}
 use lib.ListN.{length}
 use Rattle.records.specs.declared.Notice.{Notice}
 use Rattle.records.specs.Notices.{FitsFields}
+use Rattle.records.specs.Records.{lastRetailer}
 use Rattle.tape_reader.specs.Counts.{mostRecords}
 use Rattle.tape_text.specs.Text.{recordLine, noticeLine, fileLine, totalLine}
 
@@ -23,17 +24,17 @@ RecordLine = (place answer n : ℕ) → place ≤ mostRecords → answer ≤ las
     → length (recordLine place answer n) ≤ recordLineMost
 
 abbrev pub noticeLineMost : ℕ
-noticeLineMost = 59
+noticeLineMost = 69
 
 abbrev pub NoticeLine : Type 0
 NoticeLine = (x : Notice) → FitsFields x → length (noticeLine x) ≤ noticeLineMost
 
 abbrev pub fileLineMost : ℕ
-fileLineMost = 40
+fileLineMost = 43
 
 -- whatever the premise's number, since it has at most 20 digits
 abbrev pub FileLine : Type 0
-FileLine = (premise retailer since : ℕ) → retailer < 4294967296 → since < 65536 → length (fileLine premise retailer since) ≤ fileLineMost
+FileLine = (premise retailer since : ℕ) → retailer ≤ lastRetailer → since < 65536 → length (fileLine premise retailer since) ≤ fileLineMost
 
 abbrev pub totalLineMost : ℕ
 totalLineMost = 12

@@ -15,7 +15,7 @@ pub fn put_file(premise: u64, retailer: u64, since: u16, start: usize, out: &mut
     requires { ⌜ start + length (fileLine premise retailer since) ≤ length (now out) ⌝ }
     ensures { λ r. ⌜ Puts start (now (out .entry)) (now (out .exit)) r (fileLine premise retailer since) ⌝ }
 {
-    let numbers = [premise, retailer as u64, since as u64];
+    let numbers = [premise, retailer, since as u64];
     put_lettered(FILE, &numbers, start, out)
 }
 

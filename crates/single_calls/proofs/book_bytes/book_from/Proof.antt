@@ -8,7 +8,7 @@ use Rattle.single_calls.proofs.book_bytes.book_from.Statement.{statemen
 use Rattle.single_calls.proofs.book_bytes.book_from.Tie as tie
 
 abbrev Inv-loop : tie.InvT-loop
-Inv-loop bytes b₀ i₀ from₀ b i from = (i ≤ 64) × (from ≡ 3 + 189 * i) × (12099 ≤ length bytes)
+Inv-loop bytes b₀ i₀ from₀ b i from = (i ≤ 64) × (from ≡ 3 + 229 * i) × (14659 ≤ length bytes)
 
 abbrev μ-loop : tie.MeasureT-loop
 μ-loop bytes b₀ i₀ from₀ b i from = 64 - i

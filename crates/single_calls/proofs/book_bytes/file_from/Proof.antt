@@ -8,7 +8,7 @@ use Rattle.single_calls.proofs.book_bytes.file_from.Statement.{statemen
 use Rattle.single_calls.proofs.book_bytes.file_from.Tie as tie
 
 abbrev Inv-loop : tie.InvT-loop
-Inv-loop bytes at file₀ i₀ from₀ file i from = (i ≤ 8) × (from ≡ at + 21 + 21 * i) × (at + 189 ≤ length bytes)
+Inv-loop bytes at file₀ i₀ from₀ file i from = (i ≤ 8) × (from ≡ at + 29 + 25 * i) × (at + 229 ≤ length bytes)
 
 abbrev μ-loop : tie.MeasureT-loop
 μ-loop bytes at file₀ i₀ from₀ file i from = 8 - i

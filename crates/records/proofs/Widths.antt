@@ -44,18 +44,23 @@ narrow-counter n goes = (
 )
 
 -- ---- the bytes
-number-eight : (bs : List ℕ) → number (take 8 bs) ≡ number (take 4 bs) + 4294967296 * number (take 4 (drop 4 bs))
-number-eight [] = refl
-number-eight (a ∷ []) = omega arith
-number-eight (a ∷ b ∷ []) = omega arith
-number-eight (a ∷ b ∷ c ∷ []) = omega arith
-number-eight (a ∷ b ∷ c ∷ d ∷ bs) = omega arith
+first-eight : (bs : List ℕ) → number (take 8 bs) ≡ number (take 4 bs) + 4294967296 * number (take 4 (drop 4 bs))
+first-eight [] = refl
+first-eight (a ∷ []) = omega arith
+first-eight (a ∷ b ∷ []) = omega arith
+first-eight (a ∷ b ∷ c ∷ []) = omega arith
+first-eight (a ∷ b ∷ c ∷ d ∷ bs) = omega arith
+
+-- eight bytes from a place on, by the first four and the others; where there are fewer, as many as there are
+pub number-eight : (from : ℕ) (bytes : List ℕ)
+    → number (take 8 (drop from bytes)) ≡ number (take 4 (drop from bytes)) + 4294967296 * number (take 4 (drop (from + 4) bytes))
+number-eight from bytes =
+    first-eight (drop from bytes)
+    ∙ ap (λ (l : List ℕ). number (take 4 (drop from bytes)) + 4294967296 * number (take 4 l)) (drop-drop 4 from bytes)
 
 pub read-eight : ReadEight
 unfolding fieldOf
-read-eight bytes =
-    number-eight (drop 16 bytes)
-    ∙ ap (λ (l : List ℕ). number (take 4 (drop 16 bytes)) + 4294967296 * number (take 4 l)) (drop-drop 4 16 bytes)
+read-eight bytes = number-eight 16 bytes
 
 pub bytes-of-eight : BytesOfEight
 bytes-of-eight n h =

@@ -141,7 +141,7 @@ orderDay kind = cond (eqb kind standardSwitch) unused isDay
 
 -- Kind, detail and fields in range, unused fields zero: the ten kinds with the fields that document 01 gives each in brackets. Document 02,
 -- change 1: "Record kind 11 carries day, F, P and, in bytes 16 to 19, an iteration counter"; change 3: "Record kind 12 carries P, retailer
--- and detail", "a retailer of 0 gets 3".
+-- and detail", "a retailer of 0 gets 3"; change 7: a retailer is in range by the layout's limit.
 unfoldable pub wellFormedBy : Layout → Record → Bool
 wellFormedBy layout r =
     fits kindCreate aWindow isDay unused aPremise (aRetailerOrNoneBy layout) r
@@ -175,7 +175,8 @@ fieldsBy layout bytes =
 abbrev pub fieldsOf : List ℕ → Record
 fieldsOf = fieldsBy wide
 
--- Row 3, decided by a record's bytes alone: length not 24, kind, detail or field out of range, unused field not zero.
+-- Row 3, decided by a record's bytes alone: length not 24, kind, detail or field out of range, unused field not zero. What a layout leaves
+-- behind the retailer is unused in every record.
 unfoldable pub readingBy : Layout → List ℕ → Reading
 readingBy layout bytes =
     cond (eqb (length bytes) recordLength && eqb (fieldOf (layout .rest) bytes) 0 && wellFormedBy layout (fieldsBy layout bytes))

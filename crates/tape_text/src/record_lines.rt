@@ -35,7 +35,7 @@ pub fn put_notice(bytes: &[u8], start: usize, out: &mut [u8]) -> usize
     let day = notice.day as u64;
     let reference = notice.reference as u64;
     let premise = notice.premise;
-    let addressee = notice.addressee as u64;
+    let addressee = notice.addressee;
     let numbers = [code, kind, day, reference, premise, addressee];
     put_lettered(NOTICE, &numbers, start, out)
 }

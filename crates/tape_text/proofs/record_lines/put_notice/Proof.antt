@@ -21,16 +21,13 @@ cast-day c = search needs
 cast-reference : tie.Need-cast-reference
 cast-reference c = search needs
 
-cast-addressee : tie.Need-cast-addressee
-cast-addressee c = search needs
-
 slice-aggregate-put-lettered : tie.Need-slice-aggregate-put-lettered
 slice-aggregate-put-lettered c = search needs
 
 put-lettered-requires : tie.Need-put-lettered-requires
 unfolding noticeLine
 put-lettered-requires c κs =
-    let r = c .before .before .before .before .before .before .before in
+    let r = c .before .before .before .before .before .before in
     let s = r .before .before .before in
     room-as (s .args .start) (s .args .out .now) (ap noticeLine (r .read-notice .ensures)) (s .pre .1)
 
@@ -41,7 +38,7 @@ returns : tie.Need-returns
 unfolding noticeLine
 returns c =
     let p = c .before .before in
-    let r = p .before .before .before .before .before .before .before .before in
+    let r = p .before .before .before .before .before .before .before in
     puts-as (ap noticeLine (r .read-notice .ensures)) (p .put-lettered .ensures)
 
 pub put-notice-spec : {M : Type 1} → statement M
@@ -53,7 +50,6 @@ put-notice-spec =
     cast-kind
     cast-day
     cast-reference
-    cast-addressee
     slice-aggregate-put-lettered
     put-lettered-requires
     same-length

@@ -10,20 +10,14 @@ Inv-loop place f i₀ i = i ≤ 8
 abbrev μ-loop : tie.MeasureT-loop
 μ-loop place f i₀ i = 8 - i
 
-cast-t11 : tie.Need-cast-t11 Inv-loop μ-loop
-cast-t11 c = search needs
+cast-t12 : tie.Need-cast-t12 Inv-loop μ-loop
+cast-t12 c = search needs
 
-cast-t13 : tie.Need-cast-t13 Inv-loop μ-loop
-cast-t13 c = search needs
-
-cast-t17 : tie.Need-cast-t17 Inv-loop μ-loop
-cast-t17 c = search needs
+cast-t16 : tie.Need-cast-t16 Inv-loop μ-loop
+cast-t16 c = search needs
 
 cast-t19 : tie.Need-cast-t19 Inv-loop μ-loop
 cast-t19 c = search needs
-
-cast-t21 : tie.Need-cast-t21 Inv-loop μ-loop
-cast-t21 c = search needs
 
 slice-aggregate-say : tie.Need-slice-aggregate-say Inv-loop μ-loop
 slice-aggregate-say c = search needs
@@ -64,11 +58,9 @@ say-file-spec =
     (tie.spec
     Inv-loop
     μ-loop
-    cast-t11
-    cast-t13
-    cast-t17
+    cast-t12
+    cast-t16
     cast-t19
-    cast-t21
     slice-aggregate-say
     say-requires
     loop-holds

@@ -32,9 +32,9 @@ pub comes : Comes
 unfolding reviewed permitAwaited cancelAwaited ticked contends switchOfDay givesWay sameDaySwitch isDisplaced dropOnSwitchDay isOvertaken
     permitOvertaken isDue lossNotice evaluation refuses standsInWay notFirstIn markedWith steppedWith stepWith places number premiseRows
     orderRows requestedDay makeRoom ordered taken onScheduled onPermit onUnexecutable onRead supplied onCancel onReply onOrder onDateChange
-    onNamed agreed changed orderKeptBy isBlank fileKeptBy fileBlank fieldOf encodeBy wellFormedBy readingBy kindOfDay isBusinessDay switchDate
-    businessDays inWindow bookOf bookKeptBy fileFor putIn takenOut callRowsBy callBy orderFor enough short made plays record24
-    dropOf first second third completed kept anew done
+    onNamed agreed changed orderKeptBy isBlank fileKeptBy fileBlank fieldOf encodeBy wellFormedBy readingBy kindOfDay isBusinessDay
+    switchDate businessDays inWindow bookOf bookKeptBy fileFor putIn takenOut callRowsBy callBy orderFor enough short made
+    plays record24 dropOf first second third completed kept anew done
 comes = record { complete = refl; answered = refl; there = refl; statuses7 = refl; statuses5 = refl }
 
 -- the theorem says that it is the same order after the second part

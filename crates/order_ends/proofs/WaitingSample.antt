@@ -36,9 +36,9 @@ pub comes : Comes
 unfolding reviewed permitAwaited cancelAwaited ticked contends switchOfDay givesWay sameDaySwitch isDisplaced dropOnSwitchDay isOvertaken
     permitOvertaken isDue lossNotice evaluation refuses standsInWay notFirstIn markedWith steppedWith stepWith places number premiseRows
     orderRows requestedDay makeRoom ordered taken onScheduled onPermit onUnexecutable onRead supplied onCancel onReply onOrder onDateChange
-    onNamed agreed changed orderKeptBy isBlank fileKeptBy fileBlank fieldOf encodeBy wellFormedBy readingBy kindOfDay isBusinessDay switchDate
-    businessDays inWindow bookOf bookKeptBy fileFor putIn takenOut callRowsBy callBy orderFor turningDay enough short made plays record24
-    markOf everyDay arrival hanging arrived hung waiting week twoAWeek longWait
+    onNamed agreed changed orderKeptBy isBlank fileKeptBy fileBlank fieldOf encodeBy wellFormedBy readingBy kindOfDay isBusinessDay
+    switchDate businessDays inWindow bookOf bookKeptBy fileFor putIn takenOut callRowsBy callBy orderFor turningDay enough short made
+    plays record24 markOf everyDay arrival hanging arrived hung waiting week twoAWeek longWait
 comes = record {
   f = record {
     turning = refl;

@@ -1,6 +1,7 @@
 -- Document 02, change 13: "For every list of calls from a fresh book: an accepted order that has been Complete is never afterwards
 -- Cancelled or Unexecutable, nor the other way round, in any later file until it is dropped or its premise retired; after that its
--- reference may be used anew." About what calls returned, whatever their bytes and their buffers; proofs/Endings.antt proves it (`endings`).
+-- reference may be used anew." About what calls returned, whatever their bytes and their buffers;
+-- proofs/Endings.antt proves it (`endings`).
 use Prim.Native.Nat.{ℕ}
 use mathlib.Core.Path.{_≡_}
 use mathlib.Core.List.{List, [], _∷_, _++_}

@@ -80,7 +80,8 @@ fn order_day_holds(kind: u8, day: u16) -> bool
 
 // Dispatch on the record kind. A create uses the detail, its window, the day, the premise, and a retailer or none; a retire the premise; a
 // new order every field, its detail the order kind; a day mark the day; a date change all but the detail, with a counter of 32
-// bits, which is not 0, in the retailer's place; an agreement the premise and the retailer, its detail whether it is established or deleted.
+// bits, which is not 0, in the retailer's place; an agreement the premise and the retailer, its detail whether it is established or
+// deleted.
 pub fn well_formed(fields: Record) -> bool
     ensures { λ r. ⌜ r ≡ wellFormed fields ⌝ }
 {

@@ -87,6 +87,6 @@ equal =
     (short-calls (joined shuffled) shuffled (tapes .second) (tapes .cut₂))
 
 pub comes : Comes
-unfolding places number premiseRows orderRows steppedWith stepWith orderKeptBy isBlank fileKeptBy fileBlank fieldOf encodeBy wellFormedBy readingBy
-    bookOf bookKeptBy fileFor putIn takenOut callRowsBy callBy lent made plays
+unfolding places number premiseRows orderRows steppedWith stepWith orderKeptBy isBlank fileKeptBy fileBlank fieldOf encodeBy wellFormedBy
+    readingBy bookOf bookKeptBy fileFor putIn takenOut callRowsBy callBy lent made plays
 comes = record { same = tapes .same; books = equal; room = refl; full = refl; left = refl; fewer = refl }

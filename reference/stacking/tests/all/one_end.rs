@@ -312,7 +312,7 @@ fn a_reference_is_complete_and_then_unexecutable() {
     desk.take(&[drop_of(202, 1), scheduled(1, 5), read(1, 5)]);
     assert_eq!(desk.status(1), status::COMPLETE);
     for reference in 2..=9 {
-        desk.take(&[drop_of(203 + reference / 4, reference)]);
+        desk.take(&[drop_of(203 + u64::from(reference) / 4, reference)]);
     }
     assert!(desk.file().place_of(1).is_none());
     desk.take(&[unexecutable(2), drop_of(202, 1), unexecutable(1)]);

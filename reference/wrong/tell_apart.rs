@@ -1,5 +1,5 @@
-//! Plays every stored tape and makes every stored call as each of some wrong
-//! programs would, and prints what does not come out as stored. `check` writes
+//! Plays every stored tape and makes every stored single and block call as each of
+//! some wrong programs would, and prints what does not come out as stored. `check` writes
 //! the modules of the second program beside it, with their wrong definitions
 //! switched by number; 0 is the program as it is.
 
@@ -7,7 +7,10 @@
 
 mod agreement;
 mod answer;
+mod block_call;
 mod book;
+mod book_bytes;
+mod book_lines;
 mod clock;
 mod date_change;
 mod days;
@@ -19,6 +22,7 @@ mod order;
 mod premise;
 mod record;
 mod single_call;
+mod stretch;
 mod tape;
 mod well_kept;
 
@@ -44,7 +48,8 @@ struct Stored {
 fn main() {
     let mut arguments = std::env::args().skip(1);
     let root = PathBuf::from(arguments.next().expect("the repository's folder"));
-    let mut stored = calls(&root);
+    let mut stored = single_calls(&root);
+    stored.extend(block_calls(&root));
     stored.extend(tapes(&root));
     // a wrong program may also give up; the stored run that it gives up on tells it apart
     std::panic::set_hook(Box::new(|_| ()));
@@ -62,9 +67,34 @@ fn read(path: PathBuf) -> Vec<u8> {
     std::fs::read(&path).unwrap_or_else(|error| panic!("{}: {error}", path.display()))
 }
 
-fn calls(root: &Path) -> Vec<Stored> {
+fn single_calls(root: &Path) -> Vec<Stored> {
     let folder = root.join("crates/single_calls");
     let calls = single_call::read_calls(&read(folder.join("stdin"))).expect("stored calls");
+    let write = |place, call: &single_call::Call, out: &mut Vec<u8>| {
+        single_call::write_call(place, &mut call.clone(), out)
+    };
+    calls_of(folder, "call", calls, write)
+}
+
+fn block_calls(root: &Path) -> Vec<Stored> {
+    let folder = root.join("crates/block_calls");
+    let calls = block_call::read_calls(&read(folder.join("stdin"))).expect("stored calls");
+    let write = |place, call: &block_call::BlockCall, out: &mut Vec<u8>| {
+        block_call::write_call_by(stretch::record_calls, place, &mut call.clone(), out)
+    };
+    calls_of(folder, "block", calls, write)
+}
+
+/// Calls and the lines that are stored for each of them.
+fn calls_of<Call: std::panic::RefUnwindSafe + 'static>(
+    folder: PathBuf,
+    sort: &str,
+    calls: Vec<Call>,
+    write: impl Fn(usize, &Call, &mut Vec<u8>) -> std::io::Result<()>
+        + Copy
+        + std::panic::RefUnwindSafe
+        + 'static,
+) -> Vec<Stored> {
     let lines = String::from_utf8(read(folder.join("stdout"))).expect("stored lines");
     let mut expected: Vec<Vec<u8>> = Vec::new();
     for line in lines.split_inclusive('\n') {
@@ -78,10 +108,10 @@ fn calls(root: &Path) -> Vec<Stored> {
     let numbered = calls.into_iter().zip(expected).zip(1..);
     numbered
         .map(|((call, expected), place)| Stored {
-            name: format!("call {place}"),
+            name: format!("{sort} {place}"),
             play: Box::new(move || {
                 let mut out = Vec::new();
-                single_call::write_call(place, &mut call.clone(), &mut out).expect("memory");
+                write(place, &call, &mut out).expect("memory");
                 out
             }),
             expected,

@@ -70,6 +70,24 @@ impl Answer {
     }
 }
 
+/// What a call with many records returns (02, change 5); the records' own answers
+/// stand in the buffer that it is lent for them.
+#[derive(Clone, Copy, Debug, PartialEq, Eq)]
+#[repr(u8)]
+pub enum BlockAnswer {
+    /// The stretch was played as far as there was room, be it not at all.
+    Played = 0,
+    /// The answer buffer has fewer bytes than the stretch has whole records.
+    AnswersTooShort = 19,
+}
+
+impl BlockAnswer {
+    /// The document's number.
+    pub fn number(self) -> u8 {
+        self as u8
+    }
+}
+
 /// Ends a step with a row that is met.
 pub fn refuse_if(met: bool, row: Answer) -> Result<(), Answer> {
     if met {

@@ -10,7 +10,10 @@
 
 pub mod agreement;
 pub mod answer;
+pub mod block_call;
 pub mod book;
+pub mod book_bytes;
+pub mod book_lines;
 pub mod clock;
 pub mod date_change;
 pub mod days;
@@ -27,5 +30,6 @@ pub mod rules;
 pub mod sample;
 pub mod single_call;
 pub mod stored_calls;
+pub mod stretch;
 pub mod tape;
 pub mod well_kept;

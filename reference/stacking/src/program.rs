@@ -64,6 +64,14 @@ impl Arguments {
         parse_number(what, &self.left.remove(0))
     }
 
+    /// Takes what a maker of random calls needs.
+    pub fn seed_and_count(&mut self) -> Result<(u64, u64), String> {
+        let needed = "--make needs --seed and --count (see --help)";
+        let seed = self.number("--seed")?.ok_or(needed)?;
+        let count = self.number("--count")?.ok_or(needed)?;
+        Ok((seed, count))
+    }
+
     /// All must have been taken by now.
     pub fn end(self) -> Result<(), String> {
         match self.left.first() {
@@ -119,6 +127,20 @@ pub fn play_standard_input(call: RecordCall) -> Result<(), String> {
     let calendar = read_calendar()?;
     let tape = read_tape()?;
     write_out(|out| play_by(call, &calendar, &tape, out))
+}
+
+/// The calls on standard input, to its end.
+pub fn read_calls() -> Result<Vec<u8>, String> {
+    let mut bytes = Vec::new();
+    io::stdin()
+        .lock()
+        .read_to_end(&mut bytes)
+        .map_err(|error| {
+            format!(
+                "cannot read the calls from standard input: {error}; give a readable file or pipe"
+            )
+        })?;
+    Ok(bytes)
 }
 
 /// The tape on standard input, as far as it is played.

@@ -1,8 +1,10 @@
-//! The single calls that are stored beside the proved program: small books with
-//! one thing to see in each, by the topics of the document. Every clause of the
-//! rules shows in one of them or on a stored tape; `reference/wrong` tries that.
+//! The single calls and the block calls that are stored beside the proved
+//! programs: small books with one thing to see in each, by the topics of the
+//! document. Every clause of the rules shows in one of them or on a stored tape;
+//! `reference/wrong` tries that.
 
 mod agreements;
+mod blocks;
 mod both_reads;
 mod clock;
 mod date_changes;
@@ -14,6 +16,7 @@ mod rows;
 mod well_kept;
 mod windows;
 
+use crate::block_call::BlockCall;
 use crate::book::Book;
 use crate::days::{BusinessDays, CalendarDays, NO_DAY};
 use crate::file::File;
@@ -23,12 +26,17 @@ use crate::record::{Agreement, Entry, Event, NewFile, NewOrder, Record};
 use crate::single_call::Call;
 
 /// A call and what it is called.
-pub struct Stored {
+pub struct Stored<Lent = Call> {
     pub name: &'static str,
-    pub call: Call,
+    pub call: Lent,
 }
 
-/// All of them, in the order in which they are stored.
+/// The calls with many records, in the order in which they are stored.
+pub fn blocks() -> Vec<Stored<BlockCall>> {
+    blocks::calls()
+}
+
+/// The single calls, in the order in which they are stored.
 pub fn all() -> Vec<Stored> {
     let topics = [
         days::calls(),

@@ -59,7 +59,6 @@ use stacking::random::Random;
 use stacking::sample::call;
 use stacking::single_call::{call_bytes, read_calls, write_call, Call};
 use stacking::stored_calls;
-use std::io::{self, Read};
 use std::process::ExitCode;
 
 const HELP: &str = "\
@@ -85,9 +84,7 @@ fn run(mut arguments: Arguments) -> Result<(), String> {
         return program::print(HELP);
     }
     if arguments.flag("--make") {
-        let needed = "--make needs --seed and --count (see --help)";
-        let seed = arguments.number("--seed")?.ok_or(needed)?;
-        let count = arguments.number("--count")?.ok_or(needed)?;
+        let (seed, count) = arguments.seed_and_count()?;
         arguments.end()?;
         return make(seed, count);
     }
@@ -96,16 +93,7 @@ fn run(mut arguments: Arguments) -> Result<(), String> {
     if stored || names {
         return write_stored(names);
     }
-    let mut bytes = Vec::new();
-    io::stdin()
-        .lock()
-        .read_to_end(&mut bytes)
-        .map_err(|error| {
-            format!(
-                "cannot read the calls from standard input: {error}; give a readable file or pipe"
-            )
-        })?;
-    check(read_calls(&bytes)?)
+    check(read_calls(&program::read_calls()?)?)
 }
 
 fn make(seed: u64, count: u64) -> Result<(), String> {

@@ -30,7 +30,7 @@ pub fn call(random: &mut Random) -> Call {
 }
 
 /// Also one with bytes past the last day, which stand for no day.
-fn any_calendar(random: &mut Random) -> Vec<u8> {
+pub(super) fn any_calendar(random: &mut Random) -> Vec<u8> {
     let mut bytes = calendar(random);
     if random.chance(1, 20) {
         bytes.resize(CALENDAR_BYTES + 10, 0);

@@ -25,26 +25,38 @@ pub fn tape(random: &mut Random, calendar: &[u8], options: &TapeOptions) -> Vec<
         .premises
         .unwrap_or_else(|| random.pick(&[1, 2, 3, 3, 6, 12, 40, 64, 72]));
     let mut maker = RecordMaker::new(random, premises);
-    let mut marks = Marks::new(random);
     let mut book = Book::fresh(0);
-    let mut notices = vec![0; NOTICE_BUFFER_BYTES];
-    let mut tape = Vec::with_capacity(options.records * RECORD_BYTES);
-    while tape.len() < options.records * RECORD_BYTES {
-        let record = match marks.next(random) {
-            true => next_mark(&book),
-            false => maker.make(random, &book),
-        };
-        let (answer, _) = record_call(&mut book, calendar, &record, &mut notices);
-        if !(options.never_full && answer == Answer::BookFull) {
-            tape.extend_from_slice(&record);
-        }
-    }
+    let mut tape = records(random, calendar, &mut maker, &mut book, options);
     cut_last_short(random, &mut tape);
     tape
 }
 
+/// Whole records for a book, which they are played on while they are made.
+pub(super) fn records(
+    random: &mut Random,
+    calendar: &[u8],
+    maker: &mut RecordMaker,
+    book: &mut Book,
+    options: &TapeOptions,
+) -> Vec<u8> {
+    let mut marks = Marks::new(random);
+    let mut notices = vec![0; NOTICE_BUFFER_BYTES];
+    let mut records = Vec::with_capacity(options.records * RECORD_BYTES);
+    while records.len() < options.records * RECORD_BYTES {
+        let record = match marks.next(random) {
+            true => next_mark(book),
+            false => maker.make(random, book),
+        };
+        let (answer, _) = record_call(book, calendar, &record, &mut notices);
+        if !(options.never_full && answer == Answer::BookFull) {
+            records.extend_from_slice(&record);
+        }
+    }
+    records
+}
+
 /// Sometimes the last record of a tape is short.
-fn cut_last_short(random: &mut Random, tape: &mut Vec<u8>) {
+pub(super) fn cut_last_short(random: &mut Random, tape: &mut Vec<u8>) {
     if !tape.is_empty() && random.chance(1, 5) {
         tape.truncate(tape.len() - random.from_to(1, RECORD_BYTES as i32 - 1) as usize);
     }

@@ -4,13 +4,14 @@ use crate::evaluation;
 use crate::well_kept::is_well_kept;
 use crate::window::{Window, Windows};
 use stacking::agreement;
-use stacking::answer::Answer;
+use stacking::answer::{Answer, BlockAnswer};
 use stacking::book::Book;
 use stacking::clock;
 use stacking::file::File;
 use stacking::notice::{NoticeWriter, NOTICE_BUFFER_BYTES};
 use stacking::premise;
-use stacking::record::{decode, Entry, Record};
+use stacking::record::{decode, Entry, Record, RECORD_BYTES};
+use stacking::stretch::Replies;
 
 /// The record call, as [`stacking::book::record_call`].
 pub fn record_call(
@@ -40,6 +41,42 @@ pub fn record_call_untested(
         return (Answer::BufferTooShort, 0);
     }
     play(book, calendar, record, notices)
+}
+
+/// Many records in one call, as [`stacking::stretch::record_calls`], with row 2's
+/// test once: no record leaves a well-kept book otherwise, and none changes a
+/// damaged one.
+pub fn record_calls(
+    book: &mut Book,
+    calendar: &[u8],
+    stretch: &[u8],
+    answers: &mut [u8],
+    notices: &mut [u8],
+) -> Replies {
+    let records = stretch.chunks_exact(RECORD_BYTES);
+    let whole_records = records.len();
+    if answers.len() < whole_records {
+        return Replies::new(BlockAnswer::AnswersTooShort, 0, 0);
+    }
+    if notices.len() < NOTICE_BUFFER_BYTES {
+        return Replies::new(BlockAnswer::Played, 0, 0);
+    }
+    if !is_well_kept(book) {
+        answers[..whole_records].fill(Answer::BookNotWellKept.number());
+        return Replies::new(BlockAnswer::Played, whole_records, 0);
+    }
+    let (mut played, mut written) = (0, 0);
+    for (record, place) in records.zip(answers) {
+        let free = &mut notices[written * RECORD_BYTES..];
+        if free.len() < NOTICE_BUFFER_BYTES {
+            break;
+        }
+        let (answer, count) = play(book, calendar, record, free);
+        *place = answer.number();
+        played += 1;
+        written += count;
+    }
+    Replies::new(BlockAnswer::Played, played, written)
 }
 
 /// Rows 3 to 18 and 26, and the steps.

@@ -1,14 +1,17 @@
 //! The fast second program does what the plain one does, and the tapes that are
 //! timed keep it busy.
 
-use bench::book::{record_call, record_call_untested};
+use bench::book::{record_call, record_call_untested, record_calls};
 use bench::tapes::{marks_tape, mixed_tape, Tape};
 use bench::well_kept::is_well_kept;
 use stacking::answer::Answer;
+use stacking::block_call::BlockCall;
 use stacking::book::{Book, RecordCall};
 use stacking::random::Random;
-use stacking::sample::{self, call, damage, well_kept_book, TapeOptions};
+use stacking::sample::{self, block_call, call, damage, well_kept_book, TapeOptions};
 use stacking::single_call::Call;
+use stacking::stored_calls;
+use stacking::stretch::{RecordCalls, Replies};
 use stacking::tape::play_by;
 use std::process::{Command, Output};
 
@@ -40,6 +43,31 @@ fn single_calls_give_the_same() {
         }
     }
     assert!(damaged > 500, "{damaged}");
+}
+
+/// Everything that comes back from a call with many records.
+fn block_made(call: &BlockCall, calls: RecordCalls) -> (Replies, Book, Vec<u8>, Vec<u8>) {
+    let mut book = call.book.clone();
+    let mut answers = vec![165; call.answers_length];
+    let mut notices = vec![165; call.notices_length];
+    let replies = calls(
+        &mut book,
+        &call.calendar,
+        &call.stretch,
+        &mut answers,
+        &mut notices,
+    );
+    (replies, book, answers, notices)
+}
+
+#[test]
+fn calls_with_many_records_give_the_same() {
+    let mut random = Random::new(4);
+    let stored = stored_calls::blocks().into_iter().map(|stored| stored.call);
+    for call in (0..1_200).map(|_| block_call(&mut random)).chain(stored) {
+        let plain = block_made(&call, stacking::stretch::record_calls);
+        assert!(block_made(&call, record_calls) == plain);
+    }
 }
 
 /// References that end alike are compared one by one, so that they come up here.
@@ -132,6 +160,7 @@ fn text(program: &str, arguments: &str) -> String {
 
 const BENCH: &str = env!("CARGO_BIN_EXE_bench");
 const FAST: &str = env!("CARGO_BIN_EXE_fast");
+const FAST_BLOCKS: &str = env!("CARGO_BIN_EXE_fast_blocks");
 
 #[test]
 fn the_tapes_can_be_written_out() {
@@ -148,18 +177,54 @@ fn bench_prints_a_best_and_a_median() {
     assert_eq!(text(BENCH, "--runs 1").matches("ns a record").count(), 6);
 }
 
+/// Both tapes go into one call, and that gives the notices of the tape.
+#[test]
+fn a_tape_is_one_call() {
+    for tape in [marks_tape(), mixed_tape()] {
+        let place =
+            std::path::Path::new(env!("CARGO_TARGET_TMPDIR")).join(format!("one {}", tape.name));
+        std::fs::create_dir_all(&place).unwrap();
+        std::fs::write(place.join("calendar.bin"), &tape.calendar).unwrap();
+        std::fs::write(place.join("tape.bin"), &tape.bytes).unwrap();
+        let on = |file: &str, arguments: &[&str]| {
+            let input = std::fs::File::open(place.join(file)).unwrap();
+            let mut command = Command::new(FAST_BLOCKS);
+            let output = command
+                .args(arguments)
+                .current_dir(&place)
+                .stdin(input)
+                .output()
+                .unwrap();
+            assert!(output.status.success() && output.stderr.is_empty());
+            output.stdout
+        };
+        std::fs::write(place.join("call.bin"), on("tape.bin", &["--call"])).unwrap();
+        let printed = String::from_utf8(on("call.bin", &[])).unwrap();
+        let notices = |lines: &str| -> Vec<String> {
+            let chosen = lines.lines().filter(|line| line.starts_with("n "));
+            chosen.map(str::to_owned).collect()
+        };
+        let expected = notices(&played(&tape));
+        let records = tape.bytes.len() / 24;
+        let head = format!("c 1 0 {records} {}\n", expected.len());
+        assert!(printed.starts_with(&head));
+        assert_eq!(notices(&printed), expected);
+    }
+}
+
 #[test]
 fn they_say_what_is_wrong_with_their_arguments() {
     for (program, arguments, hint) in [
         (BENCH, "--runs 0", "at least 1"),
         (BENCH, "fast", "fast"),
         (FAST, "some.tape", "some.tape"),
+        (FAST_BLOCKS, "some.calls", "some.calls"),
     ] {
         let output = run(program, arguments);
         assert!(!output.status.success() && output.stdout.is_empty());
         assert!(String::from_utf8(output.stderr).unwrap().contains(hint));
     }
-    for program in [BENCH, FAST] {
+    for program in [BENCH, FAST, FAST_BLOCKS] {
         assert!(text(program, "--help").contains("usage: "));
     }
 }

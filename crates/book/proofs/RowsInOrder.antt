@@ -1,5 +1,5 @@
--- The table of a call in its order: the rows' numbers, rows 1 and 2 before all that come after them, and rows 2 and 3 by any layout.
--- Assumes nothing.
+-- The table of a call in its order: the rows' numbers, rows 1 and 2 before all that come after them, rows 2 and 3 by any layout, and what the
+-- rows see of the buffer. Assumes nothing.
 use Prim.Native.Nat.{ℕ}
 use mathlib.Core.Path.{_≡_, refl, sym, ap, ap₂, _∙_}
 use mathlib.Core.List.{List, [], _∷_, _++_, map-append}
@@ -21,6 +21,7 @@ use Rattle.book.specs.declared.Book.{Book}
 use Rattle.book.specs.Book.{mostFiles, filesOf, bookKept, fileFor}
 use Rattle.book.specs.Calls.{noticeBytes, recordRows, callRowsBy, callRows, Result, onReading, refusal, callBy, call}
 use Rattle.book.specs.Laws.{RowsOfRecord, RowsOfMalformed, CallShort, CallNotKept, NotKeptBy, MalformedBy, CallByEither}
+use Rattle.book.specs.Laws.{CallSeesRoom}
 use Rattle.book.proofs.Rows.{refusing}
 use Rattle.book.proofs.CallAnswer.{call-refused}
 
@@ -100,3 +101,8 @@ call-by-either one other calendar b bytes lent kept says = ap₂ (by-rows calend
 
 pub call-not-kept : CallNotKept
 call-not-kept calendar b bytes lent h k = not-kept-by wide calendar b bytes lent h k
+
+-- ---- and of its buffer row 1 sees the length alone, and no other row anything
+pub call-sees-room : CallSeesRoom
+unfolding callBy callRowsBy
+call-sees-room calendar b bytes lent other same = rw same

@@ -5,6 +5,7 @@ use mathlib.Core.Logic.{_↔_, _⊎_}
 use mathlib.Core.List.{List, [], _∷_, _++_, map}
 use mathlib.Core.Option.{none, some}
 use mathlib.Core.Bool.{true, false}
+use lib.Dec.{ltb}
 use lib.ListN.{length, getD, set}
 use Rattle.lists.specs.Search.{Each}
 use Rattle.days.specs.Days.{lastDay}
@@ -119,6 +120,12 @@ CallByEither =
     (one other : Layout) (calendar : List ℕ) (b : Book) (bytes lent : List ℕ)
     → bookKeptBy one b ≡ bookKeptBy other b → readingBy one bytes ≡ readingBy other bytes
     → callBy one keptWidth calendar b bytes lent ≡ callBy other keptWidth calendar b bytes lent
+
+-- Of its buffer a call sees only whether it is shorter than 24,576 bytes, whatever the book and the bytes.
+abbrev pub CallSeesRoom : Type 0
+CallSeesRoom =
+    (calendar : List ℕ) (b : Book) (bytes lent other : List ℕ) → ltb (length lent) noticeBytes ≡ ltb (length other) noticeBytes
+    → call calendar b bytes lent ≡ call calendar b bytes other
 
 -- ---- a record on a premise that is held, by the place of its file
 -- a record that leaves its premise's file in the book, and a place that holds that file; `past` is what a read past the last place would

@@ -25,13 +25,11 @@ use Rattle.book.specs.CallsInRow.{recordsOf, called, Course, stopped, callsInRo
 use Rattle.book.specs.Laws.{BookKept, numbersOf}
 use Rattle.book.proofs.Emits.{writes-emits}
 use Rattle.book.proofs.Kept.{book-kept-means}
-use Rattle.book.proofs.CallsInRow.{records-over, records-next, lent-record, called-few, called-keeps, row-none, row-next, row-stops}
+use Rattle.book.proofs.CallsInRow.{records-over, records-next, lent-record, called-few, called-keeps, notices-parts}
+use Rattle.book.proofs.CallsInRow.{behind, row-none, row-next, row-stops}
 use Rattle.book_player.proofs.Ways.{Standing, Outcome, Made}
 
--- ---- calls behind others
-abbrev pub behind : List Result → Course → Course
-behind results course = record { results = results ++ course .results; book = course .book; left = course .left }
-
+-- ---- calls and one more
 answers-more : (results : List Result) (x : Result) → answersOf (results ++ (x ∷ [])) ≡ answersOf results ++ (number (x .answer) ∷ [])
 answers-more results x = map-append (λ (y : Result). number (y .answer)) results (x ∷ [])
 
@@ -39,9 +37,8 @@ counts-more : (results : List Result) (x : Result) → countsOf (results ++ (x �
 counts-more results x = map-append (λ (y : Result). length (y .notices)) results (x ∷ [])
 
 notices-more : (results : List Result) (x : Result) → noticesOf (results ++ (x ∷ [])) ≡ noticesOf results ++ x .notices
-notices-more [] x = append-nil (x .notices)
-notices-more (y ∷ ys) x =
-    ap (λ (l : List Notice). y .notices ++ l) (notices-more ys x) ∙ sym (append-assoc (y .notices) (noticesOf ys) (x .notices))
+notices-more results x =
+    notices-parts results (x ∷ []) ∙ ap (λ (l : List Notice). noticesOf results ++ l) (append-nil (x .notices))
 
 last-more : (answer : Answer) (results : List Result) (x : Result) → lastAnswer answer (results ++ (x ∷ [])) ≡ x .answer
 last-more answer [] x = refl

@@ -3,9 +3,8 @@ use Prim.Native.Nat.{ℕ, suc, _*_, _-_, _≤_, _<_}
 use mathlib.Core.Path.{_≡_, refl, sym, ap, ap₂, subst⁻¹, _∙_}
 use mathlib.Core.Logic.{_⊎_, inl, inr, ⊎-elim}
 use mathlib.Core.List.{List, [], _∷_, _++_}
-use mathlib.Core.Bool.{Bool, true, false}
 use native.Mathlib.Omega.{arith}
-use lib.ListN.{length, take, drop, replicate, length-append, length-drop}
+use lib.ListN.{length, take, drop, length-append, length-drop}
 use lib.Seq.{take-at}
 use Rattle.records.specs.Layout.{recordLength}
 use Rattle.records.specs.Notices.{encodeAll, Emits}
@@ -15,34 +14,23 @@ use Rattle.premise.specs.declared.Answer.{Answer}
 use Rattle.premise.specs.declared.Answer.the-variants.{Accepted}
 use Rattle.premise.specs.Refusals.{number}
 use Rattle.book.specs.declared.Book.{Book}
-use Rattle.book.specs.Book.{bookKept}
 use Rattle.book.specs.Calls.{noticeBytes, Result, call}
 use Rattle.book.specs.CallsInRow.{called, Course, stopped, andThen, callsInRow, answersOf, countsOf, noticesOf, lastAnswer, Noted}
 use Rattle.book.specs.Promise.{Promised}
-use Rattle.book.proofs.CallsInRow.{called-room, called-lent, row-none, row-next, row-stops}
-use Rattle.book.proofs.RowsInOrder.{call-not-kept}
+use Rattle.book.proofs.CallsInRow.{called-lent, row-none, row-next, row-stops}
 use Rattle.demands.specs.Demand3.{Made, Played, lastBook}
 use Rattle.demands.specs.Tapes.{tapeOf}
 use Rattle.call_row.specs.CallsAreRow.{CallsAreRow}
 use Rattle.call_row.specs.CallsMade.{numbersGiven, countsGiven, sentBy, bytesSent, lastGiven, Lent}
 
 -- ---- one call
--- Of its buffer a call sees only whether it is long enough, whatever the book: one that is not well kept gets 2.
-seen : (calendar : List ℕ) (b : Book) (bytes lent : List ℕ) → noticeBytes ≤ length lent
-    → call calendar b bytes lent ≡ called calendar b bytes
-seen calendar b bytes lent long = go (bookKept b) refl
-  where
-    go : (kept : Bool) → bookKept b ≡ kept → call calendar b bytes lent ≡ called calendar b bytes
-    go true k = called-lent calendar b bytes lent k long
-    go false k = call-not-kept calendar b bytes lent long k ∙ sym (call-not-kept calendar b bytes (replicate noticeBytes 0) called-room k)
-
 module _ (calendar : List ℕ) (b : Book) (m : Made)
     (promise : Promised calendar b (m .bytes) (m .lent) (m .reply) (m .after)) (long : noticeBytes ≤ length (m .lent)) where
   abbrev result : Result
   result = called calendar b (m .bytes)
 
   same : call calendar b (m .bytes) (m .lent) ≡ result
-  same = seen calendar b (m .bytes) (m .lent) long
+  same = called-lent calendar b (m .bytes) (m .lent) long
 
   pub answer-is : result .answer ≡ m .reply .answer
   answer-is = sym (promise .answer ∙ ap (λ (x : Result). x .answer) same)

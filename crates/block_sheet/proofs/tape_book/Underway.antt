@@ -12,17 +12,15 @@ use Rattle.lists.proofs.Find.{drop-none}
 use Rattle.records.specs.Layout.{recordLength}
 use Rattle.book.specs.declared.Book.{Book}
 use Rattle.book.specs.declared.Reply.{Reply}
-use Rattle.book.specs.Book.{freshBook, bookKept}
+use Rattle.book.specs.Book.{freshBook}
 use Rattle.book.specs.Calls.{noticeBytes, Result}
 use Rattle.book.specs.CallsInRow.{recordsOf, called}
 use Rattle.book.specs.Promise.{Promised}
-use Rattle.book.proofs.Kept.{fresh-kept}
-use Rattle.book.proofs.CallsInRow.{records-over, records-next, lent-record, called-lent, called-keeps}
+use Rattle.book.proofs.CallsInRow.{records-over, records-next, lent-record, called-lent}
 use Rattle.block_sheet.specs.Played.{bookAfter}
 
 pub record Underway (calendar tape notices : List ℕ) (b : Book) (from : ℕ) : Type 0 where
   pub within : from ≤ length tape
-  pub kept : bookKept b ≡ true
   pub room : noticeBytes ≤ length notices
   pub most : ℕ
   pub enough : length tape - from ≤ most
@@ -33,7 +31,6 @@ pub begun : (calendar tape notices : List ℕ) (b : Book) → b ≡ freshBook 0 
 begun calendar tape notices b e room =
     record {
       within = omega arith;
-      kept = rw e (fresh-kept 0);
       room = room;
       most = length tape;
       enough = omega arith;
@@ -60,14 +57,13 @@ module _ {calendar tape notices : List ℕ} {b : Book} {from : ℕ} (u : Underwa
       let bytes = lent-record tape from to e in
       let call : reply .book ≡ called calendar b (take recordLength (drop from tape)) .book =
       promised .book
-      ∙ ap (λ (x : Result). x .book) (called-lent calendar b (take (to - from) (drop from tape)) notices (u .kept) (u .room))
+      ∙ ap (λ (x : Result). x .book) (called-lent calendar b (take (to - from) (drop from tape)) notices (u .room))
       ∙ ap (λ (x : List ℕ). called calendar b x .book) bytes in
       let next = records-next (u .most) (drop from tape) (omega (arith, h, u .enough)) (omega (arith, h, length-drop from tape)) in
       let left : drop recordLength (drop from tape) ≡ drop to tape =
       drop-drop recordLength from tape ∙ drop-within (from + recordLength) tape ∙ ap (λ (n : ℕ). drop n tape) (sym e) in
       record {
         within = omega (arith, e);
-        kept = rw call (called-keeps calendar b (take recordLength (drop from tape)) (u .kept));
         room = omega (arith, u .room, l);
         most = u .most - 1;
         enough = omega (arith, h, e, u .enough);

@@ -2,7 +2,6 @@
 use Prim.Native.Nat.{ℕ, _≤_}
 use mathlib.Core.Path.{_≡_, sym, ap, subst, _∙_}
 use mathlib.Core.List.{List, [], _∷_, append-nil}
-use mathlib.Core.Bool.{true}
 use native.Mathlib.Omega.{arith}
 use lib.ListN.{length}
 use lib.Seq.{take-all}
@@ -10,14 +9,12 @@ use Rattle.records.specs.Layout.{recordLength}
 use Rattle.records.proofs.Emits.{emits-as}
 use Rattle.book.specs.declared.Book.{Book}
 use Rattle.book.specs.declared.Playback.{Playback}
-use Rattle.book.specs.Book.{bookKept}
 use Rattle.book.specs.Calls.{noticeBytes, Result}
 use Rattle.book.specs.CallsInRow.{recordsOf, called, Course, stopped, andThen, callsInRow, Plays}
 use Rattle.book.specs.Promise.{Promised}
 use Rattle.book.proofs.CallsInRow.{records-next, called-lent, freeAfter, row-none, row-next}
 
-module _ (calendar : List ℕ) (b : Book) (bytes lent : List ℕ) (well : bookKept b ≡ true) (room : noticeBytes ≤ length lent)
-    (whole : length bytes ≡ recordLength) where
+module _ (calendar : List ℕ) (b : Book) (bytes lent : List ℕ) (room : noticeBytes ≤ length lent) (whole : length bytes ≡ recordLength) where
   -- its course
   one : callsInRow calendar (length lent) b (recordsOf 1 bytes)
       ≡ andThen (called calendar b bytes) (stopped (called calendar b bytes .book) [])
@@ -33,7 +30,7 @@ module _ (calendar : List ℕ) (b : Book) (bytes lent : List ℕ) (well : bookKe
       → Plays (callsInRow calendar (length lent) b (recordsOf most bytes)) p answers₀ answers counts₀ counts lent after
       → Promised calendar b bytes lent (record { answer = p .last; sent = p .sent; book = p .book }) after
   one-call alone {p} {answers₀} {answers} {counts₀} {counts} {after} plays =
-      let same = called-lent calendar b bytes lent well room in
+      let same = called-lent calendar b bytes lent room in
       let course : Course = andThen (called calendar b bytes) (stopped (called calendar b bytes .book) []) in
       let q : Plays course p answers₀ answers counts₀ counts lent after =
       subst (λ (c : Course). Plays c p answers₀ answers counts₀ counts lent after)

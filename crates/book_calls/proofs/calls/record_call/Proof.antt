@@ -50,8 +50,8 @@ returns-4 c =
     let u = e .before in
     let k = u .before in
     let a = k .before .before .before .before .before .args in
-    one-call (a .calendar .now) (a .b) (a .bytes .now) (a .buffer .now) (sym (k .book-kept .ensures) ∙ not-false _ (u .if2 .left))
-    (omega (arith, k .before .if1 .left)) (omega (arith, e .if3 .left)) refl (p .play .ensures)
+    one-call (a .calendar .now) (a .b) (a .bytes .now) (a .buffer .now) (omega (arith, k .before .if1 .left))
+    (omega (arith, e .if3 .left)) refl (p .play .ensures)
 
 pub record-call-spec : {M : Type 1} → statement M
 record-call-spec =

@@ -11,7 +11,8 @@ use borrow.Author.Tests.{ltb-true, ltb-false, lt-ltb, le-ltb}
 use Rattle.lists.specs.Search.{Each}
 use Rattle.lists.proofs.Find.{drop-none}
 use Rattle.records.specs.declared.Notice.{Notice}
-use Rattle.records.specs.Layout.{recordLength}
+use Rattle.records.specs.Layout.{Bytes, recordLength}
+use Rattle.records.proofs.Fields.{bytes-drop, bytes-take}
 use Rattle.premise.specs.declared.Answer.the-variants.{NotWellKept}
 use Rattle.book.specs.declared.Book.{Book}
 use Rattle.book.specs.Book.{bookKept}
@@ -76,6 +77,15 @@ records-many zero tape h = refl
 records-many (suc n) [] h = absurd (omega arith)
 records-many (suc n) (byte ∷ tape) h =
     ap suc (records-many n (drop recordLength (byte ∷ tape)) (omega (arith, length-drop recordLength (byte ∷ tape))))
+
+-- every record of a tape of bytes is bytes
+pub records-bytes : (most : ℕ) (tape : List ℕ) → Bytes tape → Each Bytes (recordsOf most tape)
+records-bytes zero tape real = tt
+records-bytes (suc most) [] real = tt
+records-bytes (suc most) (byte ∷ tape) real = (
+  bytes-take recordLength (byte ∷ tape) real,
+  records-bytes most (drop recordLength (byte ∷ tape)) (bytes-drop recordLength (byte ∷ tape) real),
+)
 
 -- ---- a record's bytes, of which the last may have fewer than 24, as code lends them
 take-within : {X : Type 0} (m n : ℕ) (l : List X) → min m (length l) ≡ min n (length l) → take m l ≡ take n l

@@ -31,9 +31,11 @@ use Rattle.book.proofs.FilesTaken.{taken-length}
 use Rattle.book.proofs.Kept.{holds-its-files, fresh-kept}
 use Rattle.book.proofs.Keeps.{by-call, call-keeps}
 use Rattle.book.proofs.Few.{call-few}
+use Rattle.book.proofs.Row6.{answered-full}
 use Rattle.demands.specs.Demand3.{Made, Played, AllAllowed, Premise, concerns, answers}
 use Rattle.demands.specs.Tapes.{tapeOf}
-use Rattle.demands.specs.Callers.{InOrder, AcceptedInOrder, EachBufferKept, AtMost64Calls, BuffersDontCount}
+use Rattle.demands.specs.Callers.{InOrder, AcceptedInOrder, EachBufferKept, AtMost64Calls, NoneAnswered6}
+use Rattle.demands.specs.Callers.{BuffersDontCount}
 use Rattle.demands.proofs.Demand1.{zero-where-no-row}
 use Rattle.demands.proofs.Demand2.{demand-2}
 use Rattle.demands.proofs.OnWay.{SoundIn, sound}
@@ -207,3 +209,26 @@ buffers-dont-count calendar start tape ms ns p q =
     (malformed-got-3 calendar (freshBook start) ms (fresh-kept start) (p .played) (p .allowed))
     (malformed-got-3 calendar (freshBook start) ns (fresh-kept start) (q .played) (q .allowed))
     (nobody-sees calendar start tape tape ms ns p q (λ premise. refl) .answered)
+
+-- ---- none is answered 6
+-- "answered 6" is to meet row 6, since every book on the way is well kept
+not-full : (calendar : List ℕ) (b : Book) (bytes lent : List ℕ) (answered : ℕ) → bookKept b ≡ true → noticeBytes ≤ length lent
+    → answered ≡ number (call calendar b bytes lent .answer) → (answered ≡ 6 → ⊥) → meetsRow6 b (reading bytes) ≡ false
+not-full calendar b bytes lent answered kept room is not6 = go (meetsRow6 b (reading bytes)) refl
+  where
+    go : (full : Bool) → meetsRow6 b (reading bytes) ≡ full → full ≡ false
+    go true e = absurd (not6 (is ∙ answered-full calendar b bytes lent kept room .1 e))
+    go false e = refl
+
+pub none-answered-6 : NoneAnswered6
+none-answered-6 calendar b [] kept p real room not6 = tt
+none-answered-6 calendar b (m ∷ ms) kept p real room not6 = (
+  record {
+    real = real .0;
+    room = room .0;
+    places =
+        not-full calendar b (m .bytes) (m .lent) (number (m .reply .answer)) kept (room .0) (ap number (p .0 .answer)) (not6 .0);
+  },
+  none-answered-6 calendar (m .reply .book) ms (ap bookKept (p .0 .book) ∙ call-keeps calendar b (m .bytes) (m .lent) kept) (p .1)
+      (real .1) (room .1) (not6 .1),
+)

@@ -16,7 +16,7 @@ use Rattle.book.specs.Book.{mostFiles, bookKept, freshBook}
 use Rattle.book.specs.Calls.{noticeBytes, recordRows}
 use Rattle.book.specs.Promise.{Promised}
 use Rattle.demands.specs.Demand3.{Made, Played, AllAllowed}
-use Rattle.demands.specs.Tapes.{Plays}
+use Rattle.demands.specs.Tapes.{tapeOf, Plays}
 
 -- ---- one call
 -- A call is accepted where its buffer is long enough, its book well kept, and no row from 3 on holds for its record; and nowhere else.
@@ -49,6 +49,14 @@ AtMost64Calls =
     → Played calendar (freshBook start) ms
     → Each (λ (m : Made). Bytes (m .bytes)) ms → Each (λ (m : Made). noticeBytes ≤ length (m .lent)) ms → length ms ≤ mostFiles
     → AllAllowed (freshBook start) ms
+
+-- From a well-kept book too, if none is answered 6: with records that are bytes, and buffers long enough.
+abbrev pub NoneAnswered6 : Type 0
+NoneAnswered6 =
+    (calendar : List ℕ) (b : Book) (ms : List Made) → bookKept b ≡ true → Played calendar b ms
+    → Each Bytes (tapeOf ms) → Each (λ (m : Made). noticeBytes ≤ length (m .lent)) ms
+    → Each (λ (m : Made). number (m .reply .answer) ≡ 6 → ⊥) ms
+    → AllAllowed b ms
 
 -- How long the buffers were and what stood in them shows in no answer: two lists of calls made of one tape have the same, call by call.
 abbrev pub BuffersDontCount : Type 0

@@ -7,9 +7,8 @@ use lib.ListN.{length, take, drop, length-drop}
 use lib.Seq.{drop-drop}
 use Rattle.lists.specs.Search.{Each}
 use Rattle.records.specs.Layout.{Bytes, recordLength}
-use Rattle.records.proofs.Fields.{bytes-drop, bytes-take}
 use Rattle.book.specs.CallsInRow.{recordsOf}
-use Rattle.book.proofs.CallsInRow.{records-next, records-none}
+use Rattle.book.proofs.CallsInRow.{records-next, records-none, records-bytes}
 use Rattle.tape_agreement_rules.specs.Agreement.{recordsIn}
 
 -- any limit that is no less than a tape's length is as good
@@ -39,10 +38,4 @@ cut-at tape at h =
 
 -- every record of a tape of bytes is bytes
 pub cut-bytes : (tape : List ℕ) → Bytes tape → Each Bytes (recordsIn tape)
-cut-bytes tape u = go (length tape) tape u
-  where
-    go : (most : ℕ) (rest : List ℕ) → Bytes rest → Each Bytes (recordsOf most rest)
-    go zero rest b = tt
-    go (suc most) [] b = tt
-    go (suc most) (byte ∷ rest) b =
-        (bytes-take recordLength (byte ∷ rest) b, go most (drop recordLength (byte ∷ rest)) (bytes-drop recordLength (byte ∷ rest) b))
+cut-bytes tape u = records-bytes (length tape) tape u

@@ -1,0 +1,5 @@
+pub mod Stretch
+pub mod NothingPlayed
+pub mod SingleCalls
+pub mod Stretches
+pub mod Samples

@@ -55,7 +55,7 @@ module _ (calendar : List ℕ) (b : Book) (tape : List ℕ) (places free : ℕ) 
       ∙ ap (λ (n : ℕ). record { results = replicate n (refusal NotWellKept b); book = b; left = [] }) (whole-many tape))
 
 -- ---- what many refusals with 2 give
-unkept-is-2 : number NotWellKept ≡ 2
+pub unkept-is-2 : number NotWellKept ≡ 2
 unkept-is-2 = ap (λ (ns : List ℕ). getD ns 1 0) book-answers
 
 pub twos : (n : ℕ) (b : Book) → answersOf (replicate n (refusal NotWellKept b)) ≡ replicate n 2
@@ -68,7 +68,7 @@ no-notices (suc n) b = no-notices n b
 
 -- ---- the three statements
 -- the same outcome by another name
-gives-as : {x y : Outcome} {r : Replies} {answers₀ answers₁ notices₀ notices₁ : List ℕ} → x ≡ y
+pub gives-as : {x y : Outcome} {r : Replies} {answers₀ answers₁ notices₀ notices₁ : List ℕ} → x ≡ y
     → Gives x r answers₀ answers₁ notices₀ notices₁ → Gives y r answers₀ answers₁ notices₀ notices₁
 gives-as {x} {y} {r} {answers₀} {answers₁} {notices₀} {notices₁} e g =
     subst (λ (z : Outcome). Gives z r answers₀ answers₁ notices₀ notices₁) e g

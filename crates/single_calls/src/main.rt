@@ -1,15 +1,14 @@
 // Makes single record calls on books handed in as bytes, damaged ones too, and prints what comes back, so that the proved call can be
 // compared with the second program call by call. The layout of the bytes and of the lines stands at the top of the second program's
 // callcheck.rs (reference/stacking/src/bin).
-mod book_bytes;
-mod input;
-mod lines;
-
-use crate::book_bytes::BOOK_BYTES;
-use crate::input::complain;
-use crate::input::take_length;
-use crate::input::take_part;
 use book::Book;
+use call_bytes::NO_LENGTH;
+use call_bytes::complain;
+use call_bytes::take_length;
+use call_bytes::take_part;
+
+// The program's name, for what it says on standard error.
+const NAME: [u8; 12] = *b"single_calls";
 
 // The longest calendar, record and notice buffer that are taken.
 const LONGEST_CALENDAR: usize = 8_192;
@@ -18,47 +17,35 @@ const LONGEST_RECORD: usize = 256;
 
 const LONGEST_BUFFER: usize = 65_536;
 
-// What the lent buffer is filled with.
-const PATTERN: u8 = 165;
-
-// Fills a buffer with the pattern.
-fn fill(buffer: &mut [u8]) {
-    let mut i: usize = 0;
-    while i < buffer.len() {
-        buffer[i] = PATTERN;
-        i += 1;
-    }
-}
-
 // Makes a call and prints its lines.
 fn make(place: u64, b: Book, calendar: &[u8], bytes: &[u8], buffer: &mut [u8]) {
-    fill(buffer);
+    call_bytes::fill(buffer);
     let reply = book_calls::record_call(calendar, b, bytes, buffer);
     let answer = reply.answer;
     let number = premise_rows::number_of(answer);
-    crate::lines::say(b'c', &[place, number as u64, reply.sent as u64]);
-    crate::lines::say_notices(buffer, reply.sent);
-    crate::lines::say_changed(buffer, reply.sent, PATTERN);
+    call_bytes::say(b'c', &[place, number as u64, reply.sent as u64]);
+    call_bytes::say_notices(buffer, reply.sent);
+    call_bytes::say_changed(b'x', buffer, reply.sent, records::RECORD_LENGTH);
     let c = reply.book;
-    crate::lines::say_book(c);
+    call_bytes::say_book(c);
 }
 
 // Reads the rest of a call on a book, makes it and prints its lines; whether another may follow.
 fn play_on(place: u64, b: Book, calendar: &mut [u8], bytes: &mut [u8], buffer: &mut [u8]) -> bool {
-    let days = take_part(calendar);
+    let days = take_part(&NAME, calendar);
     if calendar.len() < days {
         return false;
     }
-    let length = take_part(bytes);
+    let length = take_part(&NAME, bytes);
     if bytes.len() < length {
         return false;
     }
-    let room = take_length();
-    if room == crate::input::NO_LENGTH {
+    let room = take_length(&NAME);
+    if room == NO_LENGTH {
         return false;
     }
     if buffer.len() < room {
-        complain(b"a buffer is longer than what is taken");
+        complain(&NAME, b"a buffer is longer than what is taken");
         return false;
     }
     make(
@@ -79,25 +66,17 @@ fn play_by(
     bytes: &mut [u8],
     buffer: &mut [u8],
 ) -> bool {
-    let got = tape_io::read_up_to(libc::STDIN_FILENO, book);
-    if got.failed {
-        complain(b"standard input can't be read");
+    let taken = call_bytes::take_book(&NAME, book);
+    if !taken.came {
         return false;
     }
-    if got.count == 0 {
-        return false;
-    }
-    if got.count < BOOK_BYTES {
-        complain(b"the calls break off");
-        return false;
-    }
-    let b = crate::book_bytes::book_from(book);
+    let b = taken.book;
     play_on(place, b, calendar, bytes, buffer)
 }
 
 // Plays one call; whether another may follow.
 fn play_one(place: u64) -> bool {
-    let mut book = [0u8; BOOK_BYTES];
+    let mut book = [0u8; call_bytes::BOOK_BYTES];
     let mut calendar = [0u8; LONGEST_CALENDAR];
     let mut bytes = [0u8; LONGEST_RECORD];
     let mut buffer = [0u8; LONGEST_BUFFER];

@@ -4,8 +4,8 @@ use Prim.Native.Nat.{_+_, _*_, _-_, _≤_}
 use mathlib.Core.Path.{_≡_}
 use borrow.Author.Needs.{needs}
 use lib.ListN.{length}
-use Rattle.single_calls.proofs.book_bytes.book_from.Statement.{statement}
-use Rattle.single_calls.proofs.book_bytes.book_from.Tie as tie
+use Rattle.call_bytes.proofs.book_bytes.book_from.Statement.{statement}
+use Rattle.call_bytes.proofs.book_bytes.book_from.Tie as tie
 
 abbrev Inv-loop : tie.InvT-loop
 Inv-loop bytes b₀ i₀ from₀ b i from = (i ≤ 64) × (from ≡ 3 + 229 * i) × (14659 ≤ length bytes)

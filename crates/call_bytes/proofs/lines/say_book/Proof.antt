@@ -1,8 +1,8 @@
 -- `say_book` is safe. The loop's invariant: the place is at most 64. The measure is the places left. Assumes nothing.
 use Prim.Native.Nat.{_-_, _≤_}
 use borrow.Author.Needs.{needs}
-use Rattle.single_calls.proofs.lines.say_book.Statement.{statement}
-use Rattle.single_calls.proofs.lines.say_book.Tie as tie
+use Rattle.call_bytes.proofs.lines.say_book.Statement.{statement}
+use Rattle.call_bytes.proofs.lines.say_book.Tie as tie
 
 abbrev Inv-loop : tie.InvT-loop
 Inv-loop b i₀ i = i ≤ 64

@@ -3,8 +3,8 @@
 use Prim.Native.Nat.{_-_, _≤_}
 use borrow.Author.Needs.{needs}
 use lib.ListN.{length}
-use Rattle.single_calls.proofs.lines.say_notices.Statement.{statement}
-use Rattle.single_calls.proofs.lines.say_notices.Tie as tie
+use Rattle.call_bytes.proofs.lines.say_notices.Statement.{statement}
+use Rattle.call_bytes.proofs.lines.say_notices.Tie as tie
 
 abbrev Inv-loop : tie.InvT-loop
 Inv-loop buffer n i₀ at₀ i at = at ≤ length buffer

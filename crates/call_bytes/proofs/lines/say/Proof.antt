@@ -4,8 +4,8 @@ use native.Mathlib.Omega.{arith}
 use lib.Seq.{length-take-le}
 use borrow.Author.Needs.{needs}
 use Rattle.tape_text.proofs.Lengths.{any-lettered}
-use Rattle.single_calls.proofs.lines.say.Statement.{statement}
-use Rattle.single_calls.proofs.lines.say.Tie as tie
+use Rattle.call_bytes.proofs.lines.say.Statement.{statement}
+use Rattle.call_bytes.proofs.lines.say.Tie as tie
 
 slice-aggregate-put-lettered : tie.Need-slice-aggregate-put-lettered
 slice-aggregate-put-lettered c = search needs

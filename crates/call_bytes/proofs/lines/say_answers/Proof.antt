@@ -1,22 +1,21 @@
--- `say_changed` is safe. The loop's invariant: the place is within the buffer. The measure is the bytes left. Assumes
+-- `say_answers` is safe. The loop's invariant: no more answers are said than were asked for. The measure is the answers left. Assumes
 -- nothing.
 use Prim.Native.Nat.{_-_, _≤_}
 use borrow.Author.Needs.{needs}
-use lib.ListN.{length}
-use Rattle.single_calls.proofs.lines.say_changed.Statement.{statement}
-use Rattle.single_calls.proofs.lines.say_changed.Tie as tie
+use Rattle.call_bytes.proofs.lines.say_answers.Statement.{statement}
+use Rattle.call_bytes.proofs.lines.say_answers.Tie as tie
 
 abbrev Inv-loop : tie.InvT-loop
-Inv-loop buffer n pattern i₀ i = i ≤ length buffer
+Inv-loop answers n i₀ i = i ≤ n
 
 abbrev μ-loop : tie.MeasureT-loop
-μ-loop buffer n pattern i₀ i = length buffer - i
+μ-loop answers n i₀ i = n - i
 
 loop-holds : tie.Need-loop-holds Inv-loop μ-loop
 loop-holds c = search needs
 
-shared-slice-read-if2 : tie.Need-shared-slice-read-if2 Inv-loop μ-loop
-shared-slice-read-if2 c = search needs
+returns : tie.Need-returns Inv-loop μ-loop
+returns c = search needs
 
 shared-slice-read-say-byte : tie.Need-shared-slice-read-say-byte Inv-loop μ-loop
 shared-slice-read-say-byte c = search needs
@@ -33,20 +32,20 @@ loop-less c = search needs
 loop-again : tie.Need-loop-again Inv-loop μ-loop
 loop-again c = search needs
 
-returns : tie.Need-returns Inv-loop μ-loop
-returns c = search needs
+returns-2 : tie.Need-returns-2 Inv-loop μ-loop
+returns-2 c = search needs
 
-pub say-changed-spec : {M : Type 1} → statement M
-say-changed-spec =
+pub say-answers-spec : {M : Type 1} → statement M
+say-answers-spec =
     tie.close
     (tie.spec
     Inv-loop
     μ-loop
     loop-holds
-    shared-slice-read-if2
+    returns
     shared-slice-read-say-byte
     say-byte-requires
     add-i
     loop-less
     loop-again
-    returns)
+    returns-2)

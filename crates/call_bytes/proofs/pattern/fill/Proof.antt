@@ -3,8 +3,8 @@ use Prim.Native.Nat.{_-_, _≤_}
 use mathlib.Core.Path.{_≡_}
 use borrow.Author.Needs.{needs}
 use lib.ListN.{length}
-use Rattle.single_calls.proofs.fill.Statement.{statement}
-use Rattle.single_calls.proofs.fill.Tie as tie
+use Rattle.call_bytes.proofs.pattern.fill.Statement.{statement}
+use Rattle.call_bytes.proofs.pattern.fill.Tie as tie
 
 abbrev Inv-loop : tie.InvT-loop
 Inv-loop buffer₀ i₀ buffer i = (length buffer ≡ length buffer₀) × (i ≤ length buffer₀)

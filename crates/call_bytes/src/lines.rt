@@ -1,7 +1,8 @@
-// The lines of a single call: what came back, written to standard output.
-ghost use Prim.Native.Nat.{_+_, _≤_};
+// The lines of a call: what came back, written to standard output.
+ghost use Prim.Native.Nat.{_+_, _≤_, _<_};
 ghost use lib.ListN.{length};
 ghost use Rattle.records.specs.Layout.{recordLength};
+use crate::pattern::PATTERN;
 use book::Book;
 use premise::File;
 use premise::Order;
@@ -47,17 +48,31 @@ pub fn say_notices(buffer: &[u8], n: usize) {
     }
 }
 
-// The line of a byte at a place of the buffer.
-fn say_byte(place: usize, byte: u8) {
-    say(b'x', &[place as u64, byte as u64]);
+// A line for each of the first n answers; fewer, where the buffer does not hold so many.
+pub fn say_answers(answers: &[u8], n: usize) {
+    let mut i: usize = 0;
+    while i < n {
+        if answers.len() <= i {
+            return;
+        }
+        say_byte(b'a', i, answers[i]);
+        i += 1;
+    }
 }
 
-// A line for each byte after the first n notices that is not the pattern any more.
-pub fn say_changed(buffer: &[u8], n: usize, pattern: u8) {
+// The line of a byte at a place of a buffer.
+fn say_byte(letter: u8, place: usize, byte: u8) {
+    say(letter, &[place as u64, byte as u64]);
+}
+
+// A line for each byte after the first n parts of a buffer, each of so many bytes, that is not the pattern any more.
+pub fn say_changed(letter: u8, buffer: &[u8], n: usize, bytes: usize)
+    requires { ⌜ 0 < bytes ⌝ }
+{
     let mut i: usize = 0;
     while i < buffer.len() {
-        if n <= i / records::RECORD_LENGTH && buffer[i] != pattern {
-            say_byte(i, buffer[i]);
+        if n <= i / bytes && buffer[i] != PATTERN {
+            say_byte(letter, i, buffer[i]);
         }
         i += 1;
     }

@@ -4,8 +4,8 @@ use Prim.Native.Nat.{_+_, _*_, _-_, _≤_}
 use mathlib.Core.Path.{_≡_}
 use borrow.Author.Needs.{needs}
 use lib.ListN.{length}
-use Rattle.single_calls.proofs.book_bytes.file_from.Statement.{statement}
-use Rattle.single_calls.proofs.book_bytes.file_from.Tie as tie
+use Rattle.call_bytes.proofs.book_bytes.file_from.Statement.{statement}
+use Rattle.call_bytes.proofs.book_bytes.file_from.Tie as tie
 
 abbrev Inv-loop : tie.InvT-loop
 Inv-loop bytes at file₀ i₀ from₀ file i from = (i ≤ 8) × (from ≡ at + 29 + 25 * i) × (at + 229 ≤ length bytes)

@@ -1,4 +1,4 @@
-// A book from its bytes, for single calls: all numbers low byte first, every place of it written whether it is used or not, in range or
+// A book from its bytes: all numbers low byte first, every place of it written whether it is used or not, in range or
 // not.
 ghost use Prim.Native.Nat.{_+_, _≤_};
 ghost use lib.ListN.{length};

@@ -1,5 +1,5 @@
-// Plays stretches of tape in one call each on books handed in as bytes, damaged ones too, and prints what comes back, so that the proved call
-// can be compared with the second program call by call. Document 02, change 5.
+// Plays stretches of tape in one call each on books handed in as bytes, damaged ones too, and prints what comes back, so that the proved
+// call can be compared with the second program call by call. Document 02, change 5.
 //
 // The bytes of a call: the book as in single_calls; the calendar and the stretch, each its length (4 bytes, low byte first) and its bytes;
 // the length of the answer buffer (4); the length of the notice buffer (4). Every byte of both buffers is 165.

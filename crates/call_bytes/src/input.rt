@@ -51,7 +51,11 @@ pub fn take_part(program: &[u8], buffer: &mut [u8]) -> usize {
     if n == NO_LENGTH {
         return NO_LENGTH;
     }
-    if take(program, n, buffer) { n } else { NO_LENGTH }
+    if take(program, n, buffer) {
+        n
+    } else {
+        NO_LENGTH
+    }
 }
 
 // No book came.

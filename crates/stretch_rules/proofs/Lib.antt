@@ -1,5 +1,6 @@
-pub mod Whole
 pub mod NothingPlayed
+pub mod Samples
+pub mod Shuffled
 pub mod SingleCalls
 pub mod Stretches
-pub mod Samples
+pub mod Whole

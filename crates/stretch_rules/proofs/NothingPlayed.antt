@@ -22,7 +22,7 @@ use Rattle.stretch_rules.specs.declared.Replies.{Replies}
 use Rattle.stretch_rules.specs.declared.StretchAnswer.the-variants.{Taken, FewAnswers}
 use Rattle.stretch_rules.specs.Stretch.{wholeCount, wholeRecords, Outcome, stretchCall, Gives}
 use Rattle.stretch_rules.specs.Stretch.{number as stretchNumber}
-use Rattle.stretch_rules.specs.NothingPlayed.{Came, Nineteen, FewAnswersFirst, NoRoom, ZeroWithoutRoom, AllTwo, TwoForEachRecord}
+use Rattle.stretch_rules.specs.NothingPlayed.{FewAnswersFirst, ZeroWithoutRoom, TwoForEachRecord}
 use Rattle.stretch_rules.proofs.Whole.{whole-many}
 
 -- ---- the outcome, by whether there are answers enough

@@ -1,15 +1,16 @@
 -- A stretch is its single calls: such calls can be made, by the definition of the call, and any two lists of them are one. Assumes nothing.
 use Prim.Native.Nat.{ℕ, zero, suc, _+_, _*_, _-_, _≤_, _<_}
 use mathlib.Core.Path.{_≡_, refl, sym, ap, ap₂, subst, subst⁻¹, _∙_}
+use mathlib.Core.Logic.{_⊎_, inl, inr, ⊎-elim}
 use mathlib.Core.List.{List, [], _∷_, _++_, append-assoc}
 use mathlib.Core.Bool.{Bool, true, false, cond}
 use native.Mathlib.Omega.{arith}
 use lib.Dec.{ltb}
-use lib.ListN.{length, take, drop, length-append, length-take, length-drop, take-append-drop}
+use lib.ListN.{length, take, drop, length-append, length-map, length-take, length-drop, take-append-drop}
 use lib.Seq.{take-append-le, drop-append-le, take-at, drop-at, drop-drop}
-use Rattle.records.specs.declared.Notice.{Notice}
+use borrow.Author.Tests.{ltb-true, ltb-false}
 use Rattle.records.specs.Layout.{recordLength}
-use Rattle.records.specs.Notices.{encodeAll, Emits, rows}
+use Rattle.records.specs.Notices.{encodeAll, rows}
 use Rattle.records.proofs.Emits.{emits-as}
 use Rattle.records.proofs.Notices.{length-encodeAll, encodeAll-append}
 use Rattle.premise.specs.Refusals.{number}
@@ -17,19 +18,17 @@ use Rattle.book.specs.declared.Book.{Book}
 use Rattle.book.specs.Calls.{noticeBytes, Result, call}
 use Rattle.book.specs.CallsInRow.{called, Course, stopped, andThen, callsInRow, answersOf, noticesOf, Noted}
 use Rattle.book.specs.Promise.{Promised}
-use Rattle.book.proofs.CallsInRow.{called-lent, by-row, row-played, row-short}
+use Rattle.book.proofs.CallsInRow.{called-lent, by-row, row-short}
 use Rattle.book.proofs.NothingFree.{nothing-free}
 use Rattle.demands.specs.Demand3.{Made, Played, lastBook}
 use Rattle.demands.specs.Tapes.{tapeOf}
 use Rattle.demands.specs.CallsInRow.{noticeRows}
 use Rattle.call_row.specs.CallsMade.{numbersGiven, sentBy}
-use Rattle.stretch_rules.specs.declared.Replies.{Replies}
-use Rattle.stretch_rules.specs.declared.StretchAnswer.{StretchAnswer}
 use Rattle.stretch_rules.specs.declared.StretchAnswer.the-variants.{Taken, FewAnswers}
-use Rattle.stretch_rules.specs.Stretch.{wholeCount, wholeRecords, Outcome, stretchCall, Gives, StretchPromised}
+use Rattle.stretch_rules.specs.Stretch.{wholeCount, wholeRecords, Outcome, stretchCall}
 use Rattle.stretch_rules.specs.Stretch.{number as stretchNumber}
-use Rattle.stretch_rules.specs.SingleCalls.{behindOwn, EachLentRest, stillFree, piecesLeft, SingleCalls, AsSingleCalls}
-use Rattle.stretch_rules.specs.SingleCalls.{StretchIsSingleCalls, SingleCallsCanBeMade}
+use Rattle.stretch_rules.specs.SingleCalls.{behindOwn, EachLentRest, stillFree, piecesLeft}
+use Rattle.stretch_rules.specs.SingleCalls.{StretchIsSingleCalls, SingleCallsCanBeMade, AsManyAsFindRoom}
 
 -- ---- a single call, by the definition of the call, into a buffer
 abbrev single : List ℕ → Book → List ℕ → List ℕ → Made
@@ -189,12 +188,12 @@ told calendar b tape places lent = go (ltb places (wholeCount tape))
     go true = record {
       ms = [];
       says = says-none calendar b lent (wholeRecords tape);
-      stops = λ zero fewer. absurd (omega (arith, zero));
+      stops = λ taken fewer. absurd (omega (arith, taken));
     }
     go false = record {
       ms = singles calendar b lent (take (length (callsInRow calendar (length lent) b (wholeRecords tape) .results)) (wholeRecords tape));
       says = says calendar (length lent) b (wholeRecords tape) lent refl;
-      stops = λ zero fewer. row-short calendar (length lent) b (wholeRecords tape) fewer;
+      stops = λ taken fewer. row-short calendar (length lent) b (wholeRecords tape) fewer;
     }
 
 pub single-calls-can-be-made : SingleCallsCanBeMade
@@ -218,30 +217,85 @@ stretch-is-single-calls calendar b tape r answers₀ answers₁ notices₀ notic
       sent = p .notices .count ∙ s .sent;
       answers = subst (λ (l : List ℕ). Noted l answers₀ answers₁) (s .answers) (p .answers);
       notices = p .notices .bytes ∙ s .pieces;
-      stops = λ zero fewer.
+      stops = λ taken fewer.
           omega (
             arith,
             s .free,
-            t .stops (sym (ap stretchNumber (p .answer)) ∙ zero) (omega (arith, s .many, fewer)),
+            t .stops (sym (ap stretchNumber (p .answer)) ∙ taken) (omega (arith, s .many, fewer)),
           );
     }
+
+-- ---- how many are played
+-- Calls that end where all records are called or the bytes are few are no fewer than any others of the same records.
+no-fewer : (calendar : List ℕ) (b : Book) (lent : List ℕ) (records : List (List ℕ)) (ms ns : List Made)
+    → Played calendar b ms → EachLentRest lent ms → tapeOf ms ≡ take (length ms) records
+    → Played calendar b ns → EachLentRest lent ns → tapeOf ns ≡ take (length ns) records
+    → (length ms ≡ length records) ⊎ (length (stillFree lent ms) < noticeBytes) → length ns ≤ length ms
+no-fewer calendar b lent records ms [] p h e q k f ends = omega arith
+no-fewer calendar b lent [] [] (n ∷ ns) p h e q k f ends = absurd (omega (arith, ap length f))
+no-fewer calendar b lent (bytes ∷ records) [] (n ∷ ns) p h e q k f ends =
+    ⊎-elim (λ all. absurd (omega (arith, all))) (λ few. absurd (omega (arith, few, k .1, ap length (k .0)))) ends
+no-fewer calendar b lent [] (m ∷ ms) (n ∷ ns) p h e q k f ends = absurd (omega (arith, ap length e))
+no-fewer calendar b lent (bytes ∷ records) (m ∷ ms) (n ∷ ns) p h e q k f ends =
+    let both : m .bytes ∷ tapeOf ms ≡ bytes ∷ take (length ms) records = e in
+    let too : n .bytes ∷ tapeOf ns ≡ bytes ∷ take (length ns) records = f in
+    let first : m .bytes ≡ n .bytes = cc in
+    let ours : tapeOf ms ≡ take (length ms) records = cc in
+    let theirs : tapeOf ns ≡ take (length ns) records = cc in
+    let one : m ≡ n = same-made calendar b m n (p .0) (q .0) first (h .0 ∙ sym (k .0)) in
+    omega (
+      arith,
+      no-fewer calendar (m .reply .book) (behindOwn m) records ms ns (p .1) (h .2) ours
+          (subst⁻¹ (λ (x : Made). Played calendar (x .reply .book) ns) one (q .1))
+          (subst⁻¹ (λ (x : Made). EachLentRest (behindOwn x) ns) one (k .2))
+          theirs
+          (⊎-elim (λ all. inl (omega (arith, all))) (λ few. inr few) ends),
+    )
+
+pub as-many-as-find-room : AsManyAsFindRoom
+as-many-as-find-room calendar b tape r answers₀ answers₁ notices₀ notices₁ ms p taken far =
+    let records = wholeRecords tape in
+    let can = single-calls-can-be-made calendar b tape r answers₀ answers₁ notices₀ notices₁ p in
+    let ns = can .0 in
+    let s = can .1 in
+    let is = stretch-is-single-calls calendar b tape r answers₀ answers₁ notices₀ notices₁ ns p s in
+    let fits : length ns ≤ length records = omega (arith, ap length (s .fed), length-take (length ns) records, made-many ns) in
+    let ends : (length ns ≡ length records) ⊎ (length (stillFree notices₀ ns) < noticeBytes) =
+    go (ltb (length ns) (length records)) refl fits (is .stops taken) in
+    omega (
+      arith,
+      s .many,
+      no-fewer calendar b notices₀ records ms ns (far .calls) (far .lent) (far .fed) (s .calls) (s .lent) (s .fed) (far .ends),
+      no-fewer calendar b notices₀ records ns ms (s .calls) (s .lent) (s .fed) (far .calls) (far .lent) (far .fed) ends,
+    )
+  where
+    made-many : (ms : List Made) → length (tapeOf ms) ≡ length ms
+    made-many ms = length-map ms (λ (m : Made). m .bytes)
+
+    go : {n many free : ℕ} (fewer : Bool) → ltb n many ≡ fewer → n ≤ many → (n < many → free < noticeBytes)
+        → (n ≡ many) ⊎ (free < noticeBytes)
+    go {n} {many} true t h stops = inr (stops (ltb-true n many t))
+    go {n} {many} false t h stops = inl (omega (arith, h, ltb-false n many t))
 
 -- ---- the notices as rows: those of each call's own buffer are those of the pieces that the calls left
 rows-first : (n : ℕ) (bytes rest : List ℕ) → length bytes ≡ recordLength * n → rows n (bytes ++ rest) ≡ rows n bytes
 rows-first zero bytes rest long = refl
 rows-first (suc n) bytes rest long =
-    let first : take recordLength (bytes ++ rest) ≡ take recordLength bytes = take-append-le recordLength bytes rest (omega (arith, long)) in
+    let first : take recordLength (bytes ++ rest) ≡ take recordLength bytes =
+    take-append-le recordLength bytes rest (omega (arith, long)) in
     let others : drop recordLength (bytes ++ rest) ≡ drop recordLength bytes ++ rest =
     drop-append-le recordLength bytes rest (omega (arith, long)) in
     let left : length (drop recordLength bytes) ≡ recordLength * n = omega (arith, long, length-drop recordLength bytes) in
-    (λ i. first i ∷ rows n (others i)) ∙ ap (λ (l : List (List ℕ)). take recordLength bytes ∷ l) (rows-first n (drop recordLength bytes) rest left)
+    (λ i. first i ∷ rows n (others i))
+    ∙ ap (λ (l : List (List ℕ)). take recordLength bytes ∷ l) (rows-first n (drop recordLength bytes) rest left)
 
 rows-then : (n m : ℕ) (bytes rest : List ℕ) → length bytes ≡ recordLength * n → rows (n + m) (bytes ++ rest) ≡ rows n bytes ++ rows m rest
 rows-then zero m [] rest long = let e : 0 + m ≡ m = omega arith in ap (λ (k : ℕ). rows k rest) e
 rows-then zero m (x ∷ bytes) rest long = absurd (omega (arith, long))
 rows-then (suc n) m bytes rest long =
     let e : suc n + m ≡ suc (n + m) = omega arith in
-    let first : take recordLength (bytes ++ rest) ≡ take recordLength bytes = take-append-le recordLength bytes rest (omega (arith, long)) in
+    let first : take recordLength (bytes ++ rest) ≡ take recordLength bytes =
+    take-append-le recordLength bytes rest (omega (arith, long)) in
     let others : drop recordLength (bytes ++ rest) ≡ drop recordLength bytes ++ rest =
     drop-append-le recordLength bytes rest (omega (arith, long)) in
     let left : length (drop recordLength bytes) ≡ recordLength * n = omega (arith, long, length-drop recordLength bytes) in

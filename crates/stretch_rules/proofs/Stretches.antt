@@ -1,11 +1,10 @@
 -- Demand 3 of stretches: their single calls, one list after the other, are calls of which it speaks. Assumes nothing.
-use Prim.Native.Nat.{ℕ, zero, suc, _*_, _≤_}
+use Prim.Native.Nat.{ℕ, zero, suc, _≤_}
 use mathlib.Core.Path.{_≡_, refl, sym, ap, ap₂, subst, subst⁻¹, _∙_}
-use mathlib.Core.List.{List, [], _∷_, _++_, map, map-append, append-assoc}
+use mathlib.Core.List.{List, [], _∷_, _++_, map-append, append-assoc}
 use mathlib.Core.Bool.{Bool, true, false, cond}
-use native.Mathlib.Omega.{arith}
 use lib.Dec.{eqb}
-use lib.ListN.{length, take, drop, length-map}
+use lib.ListN.{length, take, length-map}
 use lib.Seq.{take-at}
 use Rattle.lists.specs.Search.{Each}
 use Rattle.records.specs.Layout.{Bytes, premiseField, fieldOf}
@@ -18,8 +17,8 @@ use Rattle.book.specs.Book.{filesOf, freshBook, fileFor}
 use Rattle.book.specs.Calls.{noticeBytes}
 use Rattle.book.proofs.CallsInRow.{records-bytes}
 use Rattle.book.proofs.Kept.{fresh-kept}
-use Rattle.demands.specs.Demand3.{Made, Played, lastBook, AllAllowed, Premise, concerns, ownBytes, records, answers, withPremise, noticesFor}
-use Rattle.demands.specs.Demand3.{ruledAnswers, ruledNotices, AsRuled}
+use Rattle.demands.specs.Demand3.{Made, Played, lastBook, AllAllowed, concerns, ownBytes, records, answers, withPremise, noticesFor}
+use Rattle.demands.specs.Demand3.{ruledAnswers, ruledNotices}
 use Rattle.demands.specs.Tapes.{tapeOf, ownOf}
 use Rattle.demands.specs.CallsInRow.{noticeRows}
 use Rattle.demands.proofs.Callers.{none-answered-6}
@@ -27,10 +26,10 @@ use Rattle.demands.proofs.Demand3.{demand-3}
 use Rattle.demands.proofs.Tapes.{own-of-made}
 use Rattle.call_row.specs.CallsMade.{numbersGiven}
 use Rattle.stretch_rules.specs.Stretch.{wholeCount, wholeRecords}
-use Rattle.stretch_rules.specs.SingleCalls.{behindOwn, EachLentRest, piecesLeft}
+use Rattle.stretch_rules.specs.SingleCalls.{behindOwn, EachLentRest}
 use Rattle.stretch_rules.specs.Stretches.{MadeStretch, PlayedStretches, bookAfter, recordsPlayed, answersGiven, noticesGiven}
-use Rattle.stretch_rules.specs.Stretches.{FromFresh, ownAnswers, StretchesAsRuled, StretchesEachAlone, SameOfStretches}
-use Rattle.stretch_rules.specs.Stretches.{SameBooksOfStretches, StretchesShuffled}
+use Rattle.stretch_rules.specs.Stretches.{FromFresh, ownAnswers, StretchesEachAlone}
+use Rattle.stretch_rules.specs.Stretches.{StretchesShuffled}
 use Rattle.stretch_rules.proofs.SingleCalls.{stretch-is-single-calls, single-calls-can-be-made, notice-rows}
 
 -- ---- some calls and others after them
@@ -82,8 +81,7 @@ calls-of calendar b (s ∷ ss) p =
     let numbered : numbersGiven ms ≡ take (s .replies .played) (s .answersAfter) =
     sym (ap (take (s .replies .played)) (is .answers)
     ∙ take-at (numbersGiven ms) _ (s .replies .played)
-    (length-map ms (λ (m : Made). number (m .reply .answer)) ∙ one .many)) in
-    (
+    (length-map ms (λ (m : Made). number (m .reply .answer)) ∙ one .many)) in (
       ms ++ ns,
       record {
         played = played-both calendar b ms ns (one .calls) (subst (λ (x : Book). Played calendar x ns) (is .book) (others .played));

@@ -1,5 +1,5 @@
-pub mod Stretch
 pub mod NothingPlayed
-pub mod SingleCalls
-pub mod Stretches
 pub mod Samples
+pub mod SingleCalls
+pub mod Stretch
+pub mod Stretches

@@ -1,5 +1,5 @@
--- Document 02, change 5, where nothing is played or nothing is changed, written out: 19, too few notice bytes, a book that is not well kept.
--- proofs/NothingPlayed.antt proves each from the promise.
+-- Document 02, change 5, where nothing is played or nothing is changed, written out: 19, too few notice bytes, a book that is not well
+-- kept. proofs/NothingPlayed.antt proves each from the promise.
 use Prim.Native.Nat.{ℕ, _≤_, _<_}
 use mathlib.Core.Path.{_≡_}
 use mathlib.Core.Logic.{_↔_}

@@ -4,7 +4,7 @@ use mathlib.Core.Path.{_≡_}
 use mathlib.Core.List.{List, [], _∷_, _++_}
 use mathlib.Core.Bool.{Bool, true, false, _&&_}
 use lib.Dec.{eqb}
-use lib.ListN.{length, take, replicate}
+use lib.ListN.{length, take, drop, replicate}
 use Rattle.lists.specs.Search.{allOf}
 use Rattle.records.specs.Layout.{recordLength}
 use Rattle.records.specs.Notices.{encodeAll}
@@ -18,6 +18,7 @@ use Rattle.demands.specs.Demand3.{lastBook}
 use Rattle.demands.specs.Sample.{plays, create7, create5, order7, order5, scheduled7, scheduled5, mark1, malformed, calendar}
 use Rattle.demands.specs.Sample.{ordered7, ordered5, dated7, dated5, losing7, losing5}
 use Rattle.stretch_rules.specs.Stretch.{number, joined, Outcome, stretchCall}
+use Rattle.stretch_rules.specs.Stretches.{MadeStretch, answersGiven, SameBooksOfStretches}
 
 -- ---- the tape
 -- 24 bytes of no kind
@@ -38,8 +39,8 @@ fileOf premise = newFile (record { kind = 1; detail = 0; day = 0; reference = 0;
 abbrev pub damaged : Book
 damaged = bookOf 5 (fileOf 10 ∷ fileOf 10 ∷ [])
 
--- ---- the cases: a book, a stretch, how many answer bytes and how many notice bytes are lent; the number, the answers of the records played
--- and the bytes of their notices that must come back
+-- ---- the cases: a book, a stretch, how many answer bytes and how many notice bytes are lent; the number, the answers of the records
+-- played and the bytes of their notices that must come back
 pub record Case : Type 0 where
   pub book : Book
   pub tape : List ℕ
@@ -98,3 +99,57 @@ pub record Books : Type 0 where
       ≡ lastBook (freshBook 0) (plays calendar (freshBook 0) (take 7 sample))
   pub files : length (filesOf (stretchCall calendar (freshBook 0) ten 10 (noticeBytes + recordLength * 2) .course .book)) ≡ 2
   pub same : stretchCall calendar damaged (joined (create7 ∷ noKind ∷ mark1 ∷ [])) 3 noticeBytes .course .book ≡ damaged
+
+-- ---- demand 3 of stretches: the sample as one, and a shuffle of it as two, each made by the definition of the call
+-- buffers that are long enough for each
+abbrev pub answersLent : List ℕ
+answersLent = replicate 12 165
+
+unfoldable pub noticesLent : List ℕ
+noticesLent = replicate (noticeBytes + recordLength * 6) 165
+
+unfoldable pub madeStretch : Book → List ℕ → MadeStretch
+madeStretch b tape =
+    let x = stretchCall calendar b tape (length answersLent) (length noticesLent) in
+    let results = x .course .results in
+    record {
+      tape = tape;
+      answersLent = answersLent;
+      noticesLent = noticesLent;
+      replies = record {
+        answer = x .answer;
+        played = length results;
+        sent = length (noticesOf results);
+        book = x .course .book;
+      };
+      answersAfter = answersOf results ++ drop (length (answersOf results)) answersLent;
+      noticesAfter = encodeAll (noticesOf results) ++ drop (recordLength * length (noticesOf results)) noticesLent;
+    }
+
+abbrev pub stretches : Book → List (List ℕ) → List MadeStretch
+stretches b [] = []
+stretches b (tape ∷ tapes) = let s = madeStretch b tape in s ∷ stretches (s .replies .book) tapes
+
+-- premise 5 comes first, and the stretch ends behind a record of no kind
+abbrev pub first : List (List ℕ)
+first = create5 ∷ order5 ∷ create7 ∷ noKind ∷ []
+
+abbrev pub second : List (List ℕ)
+second = order7 ∷ scheduled5 ∷ create7 ∷ scheduled7 ∷ mark1 ∷ mark1 ∷ []
+
+abbrev pub whole : List MadeStretch
+whole = stretches (freshBook 0) (ten ∷ [])
+
+abbrev pub cut : List MadeStretch
+cut = stretches (freshBook 0) (joined first ∷ joined second ∷ [])
+
+abbrev pub wholeAnswers : List ℕ
+wholeAnswers = 0 ∷ 0 ∷ 0 ∷ 5 ∷ 0 ∷ 3 ∷ 0 ∷ 0 ∷ 0 ∷ 15 ∷ []
+
+abbrev pub cutAnswers : List ℕ
+cutAnswers = 0 ∷ 0 ∷ 0 ∷ 3 ∷ 0 ∷ 0 ∷ 5 ∷ 0 ∷ 0 ∷ 15 ∷ []
+
+pub record Shuffled : Type 0 where
+  pub one : answersGiven whole ≡ wholeAnswers
+  pub two : answersGiven cut ≡ cutAnswers
+  pub same : SameBooksOfStretches 0 whole cut

@@ -1,7 +1,9 @@
 -- Document 02, change 5, as a theorem over record calls that were made: "Book, answers and notices equal those of the single calls, refused
--- records included." proofs/SingleCalls.antt proves it (`stretch-is-single-calls`, `single-calls-can-be-made`).
+-- records included." proofs/SingleCalls.antt proves it (`stretch-is-single-calls`,
+-- `single-calls-can-be-made`, `as-many-as-find-room`).
 use Prim.Native.Nat.{ℕ, _*_, _≤_, _<_}
 use mathlib.Core.Path.{_≡_}
+use mathlib.Core.Logic.{_⊎_}
 use mathlib.Core.List.{List, [], _∷_, _++_}
 use lib.ListN.{length, take, drop}
 use Rattle.records.specs.Layout.{recordLength}
@@ -43,8 +45,8 @@ pub record SingleCalls (calendar : List ℕ) (b : Book) (tape notices₀ : List 
   pub lent : EachLentRest notices₀ ms
   pub many : length ms ≡ played
 
--- What the call of many records gave is what they gave: the last one's book; how many notices; their numbers as answer bytes, and the notice
--- buffer as they left it, with every byte behind.
+-- What the call of many records gave is what they gave: the last one's book; how many notices; their numbers as answer bytes, and the
+-- notice buffer as they left it, with every byte behind.
 pub record AsSingleCalls (b : Book) (tape : List ℕ) (r : Replies) (answers₀ answers₁ notices₀ notices₁ : List ℕ)
     (ms : List Made) : Type 0 where
   pub book : r .book ≡ lastBook b ms
@@ -67,3 +69,18 @@ SingleCallsCanBeMade =
     (calendar : List ℕ) (b : Book) (tape : List ℕ) (r : Replies) (answers₀ answers₁ notices₀ notices₁ : List ℕ)
     → StretchPromised calendar b tape r answers₀ answers₁ notices₀ notices₁
     → (ms : List Made) × SingleCalls calendar b tape notices₀ (r .played) ms
+
+-- How many are played: single calls that were made as far as they go, to the last whole record or until the next would find fewer than
+-- 24,576 bytes, are as many as were played, if the answer is 0.
+pub record AsFarAsTheyGo (calendar : List ℕ) (b : Book) (tape notices₀ : List ℕ) (ms : List Made) : Type 0 where
+  pub calls : Played calendar b ms
+  pub fed : tapeOf ms ≡ take (length ms) (wholeRecords tape)
+  pub lent : EachLentRest notices₀ ms
+  pub ends : (length ms ≡ length (wholeRecords tape)) ⊎ (length (stillFree notices₀ ms) < noticeBytes)
+
+abbrev pub AsManyAsFindRoom : Type 0
+AsManyAsFindRoom =
+    (calendar : List ℕ) (b : Book) (tape : List ℕ) (r : Replies) (answers₀ answers₁ notices₀ notices₁ : List ℕ) (ms : List Made)
+    → StretchPromised calendar b tape r answers₀ answers₁ notices₀ notices₁ → number (r .answer) ≡ 0
+    → AsFarAsTheyGo calendar b tape notices₀ ms
+    → r .played ≡ length ms

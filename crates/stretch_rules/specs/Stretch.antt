@@ -50,8 +50,8 @@ pub record Outcome : Type 0 where
   pub answer : StretchAnswer
   pub course : Course
 
--- By how many answer bytes and how many notice bytes are lent: "19 when the answer buffer is shorter than the number of whole records in the
--- stretch, before anything is played"; else "the call returns 0, even where a single call would get 1 or 2".
+-- By how many answer bytes and how many notice bytes are lent: "19 when the answer buffer is shorter than the number of whole records in
+-- the stretch, before anything is played"; else "the call returns 0, even where a single call would get 1 or 2".
 unfoldable pub stretchCall : List ℕ → Book → List ℕ → ℕ → ℕ → Outcome
 stretchCall calendar b tape places free =
     cond (ltb places (wholeCount tape))

@@ -1,7 +1,7 @@
 -- The loop that answers records 2: so many are answered, and the bytes behind them stay. Assumes nothing.
 use Prim.Native.Nat.{ℕ, _+_, _≤_, _<_}
 use mathlib.Core.Path.{_≡_, refl, ap, _∙_}
-use mathlib.Core.List.{List, [], _∷_, _++_}
+use mathlib.Core.List.{List, _++_}
 use native.Mathlib.Omega.{arith}
 use lib.ListN.{length, drop, set, replicate, length-append, length-replicate, length-drop, replicate-append-replicate}
 use Rattle.lists.proofs.Over.{next-stored}

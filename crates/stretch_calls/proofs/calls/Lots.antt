@@ -2,7 +2,7 @@
 -- Assumes nothing.
 use Prim.Native.Nat.{ℕ, _+_, _*_, _-_, _≤_, _<_, min}
 use mathlib.Core.Path.{_≡_, refl, sym, ap, ap₂, subst, subst⁻¹, _∙_}
-use mathlib.Core.List.{List, [], _∷_, _++_, append-assoc, append-nil, map-append}
+use mathlib.Core.List.{List, [], _++_, append-assoc, append-nil, map-append}
 use mathlib.Core.Bool.{true}
 use native.Mathlib.Omega.{arith}
 use lib.ListN.{length, take, drop, length-append, length-take, length-drop, length-map}
@@ -21,6 +21,7 @@ use Rattle.book.proofs.Kept.{book-kept-means}
 use Rattle.book.proofs.CallsInRow.{records-parts, records-many, records-after, notices-parts, behind, row-none, row-stops, row-keeps}
 use Rattle.book.proofs.CallsInRow.{row-few, row-left, row-played, row-some, row-parts}
 use Rattle.book_player.proofs.Playing.{noted-length}
+use Rattle.stretch_rules.specs.declared.Replies.{Replies}
 use Rattle.stretch_rules.specs.declared.StretchAnswer.the-variants.{Taken}
 use Rattle.stretch_rules.specs.Stretch.{wholeCount, wholeRecords, Outcome, Gives, StretchPromised}
 use Rattle.stretch_rules.proofs.Whole.{whole-within}
@@ -94,8 +95,11 @@ module _ {calendar tape : List ℕ} {b : Book} {answers₀ notices₀ : List ℕ
   kept-book = book-kept-means c .0 (u .kept)
 
   -- ---- the loop is left
+  abbrev returned : Replies
+  returned = record { answer = Taken; played = played; sent = sent; book = c }
+
   abbrev Done : Type 0
-  Done = StretchPromised calendar b tape (record { answer = Taken; played = played; sent = sent; book = c }) answers₀ answers notices₀ notices
+  Done = StretchPromised calendar b tape returned answers₀ answers notices₀ notices
 
   done : (left : List (List ℕ))
       → callsInRow calendar (length notices₀ - recordLength * sent) c (recordsOf (whole - played) (drop (recordLength * played) tape))
@@ -105,7 +109,7 @@ module _ {calendar tape : List ℕ} {b : Book} {answers₀ notices₀ : List ℕ
       let course = u .rest ∙ ap (behind (u .results)) e in
       let is : callsInRow calendar (length notices₀) b (wholeRecords tape) .results ≡ u .results =
       ap (λ (x : Course). x .results) course ∙ append-nil (u .results) in
-      subst⁻¹ (λ (x : Outcome). Gives x (record { answer = Taken; played = played; sent = sent; book = c }) answers₀ answers notices₀ notices)
+      subst⁻¹ (λ (x : Outcome). Gives x returned answers₀ answers notices₀ notices)
       (enough-answers calendar b tape (length answers₀) (length notices₀) (omega (arith, u .all, u .fit)))
       (record {
         answer = refl;
@@ -120,9 +124,9 @@ module _ {calendar tape : List ℕ} {b : Book} {answers₀ notices₀ : List ℕ
   pub done-all : whole ≤ played → Done
   done-all h =
       let none : whole - played ≡ 0 = omega (arith, h) in
-      done [] (ap (λ (m : ℕ). callsInRow calendar (length notices₀ - recordLength * sent) c (recordsOf m (drop (recordLength * played) tape)))
-      none
-      ∙ row-none calendar (length notices₀ - recordLength * sent) c)
+      let free = length notices₀ - recordLength * sent in
+      done [] (ap (λ (m : ℕ). callsInRow calendar free c (recordsOf m (drop (recordLength * played) tape))) none
+      ∙ row-none calendar free c)
 
   -- the next would find fewer than 24,576 bytes free
   pub done-room : length notices - recordLength * sent < noticeBytes → Done

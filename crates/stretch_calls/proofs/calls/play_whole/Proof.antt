@@ -27,11 +27,9 @@ loop-holds : tie.Need-loop-holds Inv-loop μ-loop
 loop-holds c =
     let s = c .before .before .before .before .before in
     let a = s .args in
-    (
-      underway-none (a .calendar .now) (a .tape .now) (a .b) (a .answers .now) (a .counts .now) (a .notices .now) _ (s .pre .0) (s .pre .1 .0)
-          (s .pre .1 .1) refl,
-      refl,
-    )
+    let u = underway-none (a .calendar .now) (a .tape .now) (a .b) (a .answers .now) (a .counts .now) (a .notices .now) _ (s .pre .0)
+    (s .pre .1 .0) (s .pre .1 .1) refl in
+    (u, refl)
 
 -- a record is left and finds room, and so many are to be played
 abbrev at : (y : tie.After-next-many Inv-loop μ-loop) → tie.At-loop Inv-loop μ-loop
@@ -80,8 +78,7 @@ loop-again c =
     let p = played (c .before .before) in
     let y = before p in
     let u = at y .loop .inv .0 in
-    let same = p .play .kept .1 .1 .1 .1 .0 in
-    (
+    let same = p .play .kept .1 .1 .1 .1 .0 in (
       underway-more u (y .before .before .loop-test .taken) (room-left (y .before)) (y .next-many .result) (y .next-many .ensures)
           (p .play .ensures) (omega (arith, same, u .notes)),
       same ∙ at y .loop .inv .1,

@@ -47,8 +47,7 @@ play-whole-requires : tie.Need-play-whole-requires
 play-whole-requires c κs =
     let e = c .before .before .before in
     let k = e .before in
-    let a = began (k .before .before .before) .args in
-    (
+    let a = began (k .before .before .before) .args in (
       book-kept-means (a .b) .0 (sym (k .book-kept .ensures) ∙ not-false _ (e .if3 .left)),
       (omega (arith, k .before .before .if1 .left), search needs),
     )

@@ -13,7 +13,7 @@ use Rattle.records.specs.Layout.{Bytes}
 use Rattle.days.specs.Days.{kindOfDay, isBusinessDay, switchDate}
 use Rattle.days.specs.Window.{businessDays, inWindow}
 use Rattle.records.specs.Layout.{fieldOf}
-use Rattle.records.specs.Records.{wellFormed, reading}
+use Rattle.records.specs.Records.{wellFormedBy, readingBy}
 use Rattle.premise.specs.Orders.{places}
 use Rattle.premise.specs.Steps.{requestedDay, makeRoom, ordered, taken, onScheduled, onPermit, onUnexecutable, onRead, supplied, onCancel}
 use Rattle.premise.specs.Steps.{onReply, onOrder, onDateChange, onNamed, changed, agreed}
@@ -21,11 +21,11 @@ use Rattle.premise.specs.Clock.{reviewed, permitAwaited, cancelAwaited, ticked}
 use Rattle.premise.specs.Evaluation.{contends, switchOfDay, givesWay, sameDaySwitch, isDisplaced, dropOnSwitchDay, isOvertaken}
 use Rattle.premise.specs.Evaluation.{permitOvertaken, isDue, lossNotice, evaluation}
 use Rattle.premise.specs.FirstIn.{refuses, standsInWay, notFirstIn}
-use Rattle.premise.specs.WellKept.{orderKept, isBlank, fileKept, fileBlank}
+use Rattle.premise.specs.WellKept.{orderKeptBy, isBlank, fileKeptBy, fileBlank}
 use Rattle.premise.specs.Refusals.{number, premiseRows, orderRows}
 use Rattle.premise.specs.OnePremise.{markedWith, stepWith, steppedWith}
-use Rattle.book.specs.Book.{bookOf, bookKept, fileFor, putIn, takenOut}
-use Rattle.book.specs.Calls.{callRowsWith, callWith}
+use Rattle.book.specs.Book.{bookOf, bookKeptBy, fileFor, putIn, takenOut}
+use Rattle.book.specs.Calls.{callRowsBy, callBy}
 use Rattle.book.specs.CallsInRow.{callsInRow}
 use Rattle.book.specs.declared.Book.{Book}
 use Rattle.book.specs.Book.{freshBook}
@@ -71,8 +71,8 @@ plays : Plays
 unfolding reviewed permitAwaited cancelAwaited ticked contends switchOfDay givesWay sameDaySwitch isDisplaced dropOnSwitchDay isOvertaken
     permitOvertaken isDue lossNotice evaluation refuses standsInWay notFirstIn markedWith steppedWith stepWith places number premiseRows
     orderRows requestedDay makeRoom ordered taken onScheduled onPermit onUnexecutable onRead supplied onCancel onReply onOrder onDateChange
-    onNamed changed agreed orderKept isBlank fileKept fileBlank fieldOf wellFormed reading kindOfDay isBusinessDay switchDate
-    businessDays inWindow bookOf bookKept fileFor putIn takenOut callRowsWith callWith callsInRow create7 create5 order7 order5 scheduled7
+    onNamed changed agreed orderKeptBy isBlank fileKeptBy fileBlank fieldOf wellFormedBy readingBy kindOfDay isBusinessDay switchDate
+    businessDays inWindow bookOf bookKeptBy fileFor putIn takenOut callRowsBy callBy callsInRow create7 create5 order7 order5 scheduled7
     scheduled5 mark1 calendar wholeRecords stretchCall noticesLent madeStretch
 plays = record { fed = refl; fed₂ = refl; one = refl; two = refl; bytes = refl; bytes₂ = refl }
 
@@ -96,7 +96,7 @@ record BothMarked (premise : ℕ) : Type 0 where
   theirs : Marked premise (first ++ second) (marks₂ (eqb 7 premise) (eqb 5 premise))
 
 marked-both : (premise : ℕ) → BothMarked premise
-unfolding reading wellFormed fieldOf create7 create5 order7 order5 scheduled7 scheduled5 mark1
+unfolding readingBy wellFormedBy fieldOf create7 create5 order7 order5 scheduled7 scheduled5 mark1
 marked-both premise = record {
   ours = (refl, (refl, (refl, (refl, (refl, (refl, (refl, (refl, (refl, (refl, tt))))))))));
   theirs = (refl, (refl, (refl, (refl, (refl, (refl, (refl, (refl, (refl, (refl, tt))))))))));

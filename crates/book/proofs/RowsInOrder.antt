@@ -1,5 +1,5 @@
--- The table of a call in its order: the rows' numbers, rows 1 and 2 before all that come after them, rows 2 and 3 by any layout, and what the
--- rows see of the buffer. Assumes nothing.
+-- The table of a call in its order: the rows' numbers, rows 1 and 2 before all that come after them, rows 2 and 3 by any layout, and
+-- what the rows see of the buffer. Assumes nothing.
 use Prim.Native.Nat.{ℕ}
 use mathlib.Core.Path.{_≡_, refl, sym, ap, ap₂, _∙_}
 use mathlib.Core.List.{List, [], _∷_, _++_, map-append}

@@ -3,6 +3,7 @@
 use crate::book::RecordCall;
 use crate::days::CALENDAR_BYTES;
 use crate::tape::{play_by, TAPE_BYTES};
+use std::fmt::Display;
 use std::fs::File;
 use std::io::{self, BufWriter, ErrorKind, Read, Write};
 use std::process::ExitCode;
@@ -54,6 +55,18 @@ impl Arguments {
         self.value(name)?
             .map(|text| parse_number(name, &text))
             .transpose()
+    }
+
+    /// Takes `name` with the value after it, which must be there.
+    pub fn needed(&mut self, name: &str) -> Result<String, String> {
+        let value = self.value(name)?;
+        value.ok_or_else(|| format!("it needs {name} (see --help)"))
+    }
+
+    /// Takes `name` with the number after it, which must be there.
+    pub fn needed_number(&mut self, name: &str) -> Result<u64, String> {
+        let number = self.number(name)?;
+        number.ok_or_else(|| format!("it needs {name} (see --help)"))
     }
 
     /// Takes the next argument, which has no name, as a number.
@@ -122,6 +135,60 @@ pub fn print(text: &str) -> Result<(), String> {
     write_out(|out| out.write_all(text.as_bytes()))
 }
 
+/// Writes a file; one that can't be written is an error.
+pub fn write_file(path: &str, bytes: &[u8]) -> Result<(), String> {
+    std::fs::write(path, bytes)
+        .map_err(|error| format!("{path}: {error}; give a file that can be written"))
+}
+
+/// A program that writes text as bytes, and with `--text` bytes as text.
+pub fn text_and_back(
+    mut arguments: Arguments,
+    help: &str,
+    encode: fn(&str) -> Result<Vec<u8>, String>,
+    decode: fn(&[u8]) -> Result<String, String>,
+) -> Result<(), String> {
+    if arguments.flag("--help") {
+        return print(help);
+    }
+    let back = arguments.flag("--text");
+    arguments.end()?;
+    let bytes = read_standard_input("standard input")?;
+    if back {
+        return print(&decode(&bytes)?);
+    }
+    let text = String::from_utf8(bytes)
+        .map_err(|_| "the text has a byte that is no text; expected UTF-8")?;
+    let encoded = encode(&text)?;
+    write_out(|out| out.write_all(&encoded))
+}
+
+/// Writes so many calls, each made anew.
+pub fn write_made(count: u64, mut make: impl FnMut() -> Vec<u8>) -> Result<(), String> {
+    write_out(|out| {
+        for _ in 0..count {
+            out.write_all(&make())?;
+        }
+        Ok(())
+    })
+}
+
+/// Writes stored calls, or their names, a line each.
+pub fn write_stored(
+    names: bool,
+    calls: impl Iterator<Item = (impl Display, Vec<u8>)>,
+) -> Result<(), String> {
+    write_out(|out| {
+        for (name, bytes) in calls {
+            match names {
+                true => writeln!(out, "{name}")?,
+                false => out.write_all(&bytes)?,
+            }
+        }
+        Ok(())
+    })
+}
+
 /// Plays the tape on standard input with `calendar.bin` of the current folder.
 pub fn play_standard_input(call: RecordCall) -> Result<(), String> {
     let calendar = read_calendar()?;
@@ -131,15 +198,13 @@ pub fn play_standard_input(call: RecordCall) -> Result<(), String> {
 
 /// The calls on standard input, to its end.
 pub fn read_calls() -> Result<Vec<u8>, String> {
+    read_standard_input("the calls from standard input")
+}
+
+fn read_standard_input(what: &str) -> Result<Vec<u8>, String> {
     let mut bytes = Vec::new();
-    io::stdin()
-        .lock()
-        .read_to_end(&mut bytes)
-        .map_err(|error| {
-            format!(
-                "cannot read the calls from standard input: {error}; give a readable file or pipe"
-            )
-        })?;
+    let read = io::stdin().lock().read_to_end(&mut bytes);
+    read.map_err(|error| format!("cannot read {what}: {error}; give a readable file or pipe"))?;
     Ok(bytes)
 }
 

@@ -24,9 +24,7 @@ fn run(mut arguments: Arguments) -> Result<(), String> {
     if arguments.flag("--help") {
         return program::print(HELP);
     }
-    let seed = arguments
-        .number("--seed")?
-        .ok_or("it needs --seed (see --help)")?;
+    let seed = arguments.needed_number("--seed")?;
     let records = arguments.number("--records")?.unwrap_or(300);
     let pair = pair(seed, records as usize);
     for (name, bytes) in [
@@ -34,11 +32,7 @@ fn run(mut arguments: Arguments) -> Result<(), String> {
         ("--theirs-out", &pair.theirs),
         ("--calendar-out", &pair.calendar),
     ] {
-        let path = arguments
-            .value(name)?
-            .ok_or(format!("it needs {name} (see --help)"))?;
-        std::fs::write(&path, bytes)
-            .map_err(|error| format!("{path}: {error}; give a file that can be written"))?;
+        program::write_file(&arguments.needed(name)?, bytes)?;
     }
     arguments.end()?;
     program::print(&format!("{:?}\n", pair.change))

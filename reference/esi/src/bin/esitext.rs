@@ -4,7 +4,6 @@
 
 use esi::text::{decode, encode};
 use stacking::program::{self, Arguments};
-use std::io::{self, Read};
 use std::process::ExitCode;
 
 const HELP: &str = "\
@@ -20,25 +19,9 @@ which line or record breaks which rule, and writes nothing.
 ";
 
 fn main() -> ExitCode {
-    program::finish("esitext", run(Arguments::of_program()))
-}
-
-fn run(mut arguments: Arguments) -> Result<(), String> {
-    if arguments.flag("--help") {
-        return program::print(HELP);
-    }
-    let back = arguments.flag("--text");
-    arguments.end()?;
-    let mut bytes = Vec::new();
-    let read = io::stdin().read_to_end(&mut bytes);
-    read.map_err(|error| {
-        format!("cannot read standard input: {error}; give a readable file or pipe")
-    })?;
-    if back {
-        return program::print(&decode(&bytes)?);
-    }
-    let text = String::from_utf8(bytes)
-        .map_err(|_| "the text has a byte that is no text; expected UTF-8")?;
-    let directory = encode(&text)?;
-    program::write_out(|out| out.write_all(&directory))
+    let arguments = Arguments::of_program();
+    program::finish(
+        "esitext",
+        program::text_and_back(arguments, HELP, encode, decode),
+    )
 }

@@ -29,12 +29,8 @@ fn run(mut arguments: Arguments) -> Result<(), String> {
     if arguments.flag("--help") {
         return program::print(HELP);
     }
-    let seed = arguments
-        .number("--seed")?
-        .ok_or("it needs --seed (see --help)")?;
-    let path = arguments
-        .value("--directory-out")?
-        .ok_or("it needs --directory-out (see --help)")?;
+    let seed = arguments.needed_number("--seed")?;
+    let path = arguments.needed("--directory-out")?;
     let records = arguments.number("--records")?;
     arguments.end()?;
     let (directory, texts) = match records {
@@ -44,8 +40,7 @@ fn run(mut arguments: Arguments) -> Result<(), String> {
         }
         Some(count) => sound(seed, count as usize),
     };
-    std::fs::write(&path, directory)
-        .map_err(|error| format!("{path}: {error}; give a file that can be written"))?;
+    program::write_file(&path, &directory)?;
     program::write_out(|out| {
         for text in texts {
             out.write_all(&text)?;

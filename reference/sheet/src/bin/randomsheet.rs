@@ -25,24 +25,13 @@ fn run(mut arguments: Arguments) -> Result<(), String> {
     if arguments.flag("--help") {
         return program::print(HELP);
     }
-    let seed = arguments
-        .number("--seed")?
-        .ok_or("it needs --seed (see --help)")?;
-    let blocks = arguments
-        .value("--blocks-out")?
-        .ok_or("it needs --blocks-out (see --help)")?;
-    let calendar = arguments
-        .value("--calendar-out")?
-        .ok_or("it needs --calendar-out (see --help)")?;
+    let seed = arguments.needed_number("--seed")?;
+    let blocks = arguments.needed("--blocks-out")?;
+    let calendar = arguments.needed("--calendar-out")?;
     arguments.end()?;
     let sample = sample(seed);
     let rows: Vec<u8> = sample.rows.iter().flat_map(Row::bytes).collect();
-    write_file(&blocks, &rows)?;
-    write_file(&calendar, &sample.calendar)?;
+    program::write_file(&blocks, &rows)?;
+    program::write_file(&calendar, &sample.calendar)?;
     program::write_out(|out| out.write_all(&sample.tape))
-}
-
-fn write_file(path: &str, bytes: &[u8]) -> Result<(), String> {
-    std::fs::write(path, bytes)
-        .map_err(|error| format!("{path}: {error}; give a file that can be written"))
 }

@@ -4,7 +4,6 @@
 
 use sheet::text::{decode, encode};
 use stacking::program::{self, Arguments};
-use std::io::{self, Read};
 use std::process::ExitCode;
 
 const HELP: &str = "\
@@ -21,25 +20,9 @@ nothing.
 ";
 
 fn main() -> ExitCode {
-    program::finish("sheettext", run(Arguments::of_program()))
-}
-
-fn run(mut arguments: Arguments) -> Result<(), String> {
-    if arguments.flag("--help") {
-        return program::print(HELP);
-    }
-    let back = arguments.flag("--text");
-    arguments.end()?;
-    let mut bytes = Vec::new();
-    let read = io::stdin().read_to_end(&mut bytes);
-    read.map_err(|error| {
-        format!("cannot read standard input: {error}; give a readable file or pipe")
-    })?;
-    if back {
-        return program::print(&decode(&bytes)?);
-    }
-    let text = String::from_utf8(bytes)
-        .map_err(|_| "the text has a byte that is no text; expected UTF-8")?;
-    let rows = encode(&text)?;
-    program::write_out(|out| out.write_all(&rows))
+    let arguments = Arguments::of_program();
+    program::finish(
+        "sheettext",
+        program::text_and_back(arguments, HELP, encode, decode),
+    )
 }

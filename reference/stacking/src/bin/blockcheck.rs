@@ -92,24 +92,15 @@ fn run(mut arguments: Arguments) -> Result<(), String> {
 
 fn make(seed: u64, count: u64) -> Result<(), String> {
     let mut random = Random::new(seed);
-    program::write_out(|out| {
-        for _ in 0..count {
-            out.write_all(&call_bytes(&block_call(&mut random)))?;
-        }
-        Ok(())
-    })
+    program::write_made(count, || call_bytes(&block_call(&mut random)))
 }
 
 fn write_stored(names: bool) -> Result<(), String> {
-    program::write_out(|out| {
-        for stored in stored_calls::blocks() {
-            match names {
-                true => writeln!(out, "{}", stored.name)?,
-                false => out.write_all(&call_bytes(&stored.call))?,
-            }
-        }
-        Ok(())
-    })
+    let calls = stored_calls::blocks().into_iter();
+    program::write_stored(
+        names,
+        calls.map(|stored| (stored.name, call_bytes(&stored.call))),
+    )
 }
 
 fn write_singles(calls: Vec<BlockCall>) -> Result<(), String> {

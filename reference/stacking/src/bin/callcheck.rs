@@ -98,24 +98,15 @@ fn run(mut arguments: Arguments) -> Result<(), String> {
 
 fn make(seed: u64, count: u64) -> Result<(), String> {
     let mut random = Random::new(seed);
-    program::write_out(|out| {
-        for _ in 0..count {
-            out.write_all(&call_bytes(&call(&mut random)))?;
-        }
-        Ok(())
-    })
+    program::write_made(count, || call_bytes(&call(&mut random)))
 }
 
 fn write_stored(names: bool) -> Result<(), String> {
-    program::write_out(|out| {
-        for stored in stored_calls::all() {
-            match names {
-                true => writeln!(out, "{}", stored.name)?,
-                false => out.write_all(&call_bytes(&stored.call))?,
-            }
-        }
-        Ok(())
-    })
+    let calls = stored_calls::all().into_iter();
+    program::write_stored(
+        names,
+        calls.map(|stored| (stored.name, call_bytes(&stored.call))),
+    )
 }
 
 fn check(calls: Vec<Call>) -> Result<(), String> {

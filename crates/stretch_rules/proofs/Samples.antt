@@ -31,8 +31,9 @@ unfolding reviewed permitAwaited cancelAwaited ticked contends switchOfDay gives
     permitOvertaken isDue lossNotice evaluation refuses standsInWay notFirstIn markedWith steppedWith stepWith places number premiseRows
     orderRows requestedDay makeRoom ordered taken onScheduled onPermit onUnexecutable onRead supplied onCancel onReply onOrder onDateChange
     onNamed changed agreed orderKeptBy isBlank fileKeptBy fileBlank fieldOf encodeBy wellFormedBy readingBy kindOfDay isBusinessDay
-    switchDate businessDays inWindow waitingIn bookOf bookKeptBy fileFor putIn takenOut callRowsBy callBy callsInRow create7 create5 order7 order5 scheduled7
-    scheduled5 mark1 malformed calendar ordered7 ordered5 dated7 dated5 losing7 losing5 wholeRecords stretchCall stretchNumber
+    switchDate businessDays inWindow waitingIn bookOf bookKeptBy fileFor putIn takenOut callRowsBy callBy callsInRow create7 create5 order7
+    order5 scheduled7 scheduled5 mark1 malformed calendar ordered7 ordered5 dated7 dated5 losing7 losing5 wholeRecords stretchCall
+    stretchNumber
 samples = refl
 
 pub books : Books
@@ -40,6 +41,6 @@ unfolding reviewed permitAwaited cancelAwaited ticked contends switchOfDay gives
     permitOvertaken isDue lossNotice evaluation refuses standsInWay notFirstIn markedWith steppedWith stepWith places number premiseRows
     orderRows requestedDay makeRoom ordered taken onScheduled onPermit onUnexecutable onRead supplied onCancel onReply onOrder onDateChange
     onNamed changed agreed orderKeptBy isBlank fileKeptBy fileBlank fieldOf encodeBy wellFormedBy readingBy kindOfDay isBusinessDay
-    switchDate businessDays inWindow waitingIn bookOf bookKeptBy fileFor putIn takenOut callRowsBy callBy callsInRow lent made plays create7 create5 order7
-    order5 scheduled7 scheduled5 mark1 malformed calendar wholeRecords stretchCall
+    switchDate businessDays inWindow waitingIn bookOf bookKeptBy fileFor putIn takenOut callRowsBy callBy callsInRow lent made plays create7
+    create5 order7 order5 scheduled7 scheduled5 mark1 malformed calendar wholeRecords stretchCall
 books = record { seven = refl; files = refl; same = refl }

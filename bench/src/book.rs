@@ -1,6 +1,7 @@
 //! The fast record calls.
 
 use crate::evaluation;
+use crate::waiting;
 use crate::well_kept::is_well_kept;
 use crate::window::{Window, Windows};
 use stacking::agreement;
@@ -114,9 +115,12 @@ fn premise_record(
         }
         (Entry::Order(entry), Ok(place)) => {
             let file = &mut book.files[place];
+            let before = waiting::of_file(file);
             premise::order_step(file, calendar, book.today, entry, notices)?;
             let window = Window::new(calendar, book.today, file.window);
             evaluation::run(file, &window, notices);
+            let totals = waiting::packed(&book.waiting) + waiting::of_file(file) - before;
+            book.waiting = waiting::unpacked(totals);
             Ok(())
         }
         (Entry::Agreement(agreement), Ok(place)) => {
@@ -125,7 +129,10 @@ fn premise_record(
     }
 }
 
-/// Record kind 10. The windows are looked for once, for all files.
+/// Record kind 10. The windows are looked for once, for all files. At a mark no
+/// order changes its status without a notice, so that most marks leave the totals;
+/// where there are notices they are counted anew, which is no dearer than to look
+/// at every file before and after.
 fn day_mark(
     book: &mut Book,
     calendar: &[u8],
@@ -138,6 +145,10 @@ fn day_mark(
     for file in &mut book.files[..usize::from(book.file_count)] {
         clock::run(file, calendar, day, notices);
         evaluation::run(file, &windows.of(file.window), notices);
+    }
+    if notices.count() > 0 {
+        let parts = book.held().iter().map(waiting::of_file);
+        book.waiting = waiting::unpacked(parts.sum());
     }
     Ok(())
 }

@@ -9,5 +9,6 @@ pub mod agreement;
 pub mod book;
 pub mod evaluation;
 pub mod tapes;
+pub mod waiting;
 pub mod well_kept;
 pub mod window;

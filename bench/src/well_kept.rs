@@ -1,5 +1,6 @@
 //! Row 2's test made fast.
 
+use crate::waiting;
 use stacking::book::{Book, FILES_A_BOOK};
 use stacking::clock::{CANCEL_PENDING_WAIT, LONGEST_WAIT};
 use stacking::days::{is_day, CalendarDays, NARROWEST_WINDOW, NO_DAY, WIDEST_WINDOW};
@@ -7,20 +8,24 @@ use stacking::file::{File, ORDERS_A_FILE};
 use stacking::order::{kind, Order, LARGEST_RETAILER};
 
 /// Every field in range, premises rising, references distinct in a file, the
-/// days and waits that go with each status, unused places zero.
+/// days and waits that go with each status, unused places zero, the four totals
+/// the count over all files, which is taken in the same walk.
 pub fn is_well_kept(book: &Book) -> bool {
     let count = usize::from(book.file_count);
     if !is_day(book.today) || count > FILES_A_BOOK {
         return false;
     }
     let (held, unused) = book.files.split_at(count);
+    let mut totals = 0;
     held.windows(2)
         .all(|pair| pair[0].premise < pair[1].premise)
-        && held.iter().all(file_is_well_kept)
+        && held.iter().all(|file| file_is_well_kept(file, &mut totals))
         && unused.iter().all(file_is_empty)
+        && totals == waiting::packed(&book.waiting)
 }
 
-fn file_is_well_kept(file: &File) -> bool {
+/// Also adds the file's part to the totals.
+fn file_is_well_kept(file: &File, totals: &mut u64) -> bool {
     let count = usize::from(file.order_count);
     if count > ORDERS_A_FILE {
         return false;
@@ -33,7 +38,7 @@ fn file_is_well_kept(file: &File) -> bool {
         & (file.window <= WIDEST_WINDOW)
         & (file.agreement <= LARGEST_RETAILER)
         & (file.moved_in <= 1)
-        & all(held, order_is_well_kept)
+        & held_are_well_kept(held, totals)
         & all(unused, order_is_empty)
         && references_are_distinct(held)
 }
@@ -61,6 +66,17 @@ fn all(orders: &[Order], test: fn(&Order) -> bool) -> bool {
     orders
         .iter()
         .fold(true, |so_far, order| so_far & test(order))
+}
+
+/// The same for held orders, which are counted on the way.
+fn held_are_well_kept(held: &[Order], totals: &mut u64) -> bool {
+    let (mut so_far, mut own) = (true, 0);
+    for order in held {
+        so_far &= order_is_well_kept(order);
+        own += waiting::unit(order.status);
+    }
+    *totals += own;
+    so_far
 }
 
 /// Most files give their references one after the other. Then the last six bits

@@ -13,6 +13,7 @@ use stacking::single_call::Call;
 use stacking::stored_calls;
 use stacking::stretch::{RecordCalls, Replies};
 use stacking::tape::play_by;
+use stacking::waiting::waiting_orders;
 use std::process::{Command, Output};
 
 /// Everything that comes back from a call.
@@ -89,6 +90,19 @@ fn well_kept_is_the_same() {
             is_well_kept(&book),
             stacking::well_kept::is_well_kept(&book)
         );
+    }
+}
+
+/// The totals are those of the plain program after every record of a tape.
+#[test]
+fn totals_are_the_same() {
+    let mut notices = vec![0; 24_576];
+    for tape in [marks_tape(), mixed_tape()] {
+        let mut book = Book::fresh(0);
+        for record in tape.bytes.chunks(24) {
+            record_call_untested(&mut book, &tape.calendar, record, &mut notices);
+            assert_eq!(waiting_orders(&book), book.counted());
+        }
     }
 }
 

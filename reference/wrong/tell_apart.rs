@@ -1,7 +1,8 @@
-//! Plays every stored tape and makes every stored single and block call as each of
-//! some wrong programs would, and prints what does not come out as stored. `check` writes
-//! the modules of the second program beside it, with their wrong definitions
-//! switched by number; 0 is the program as it is.
+//! Plays every stored tape, also the one whose waiting orders are told, and makes
+//! every stored single and block call as each of some wrong programs would, and
+//! prints what does not come out as stored. `check` writes the modules of the second
+//! program beside it, with their wrong definitions switched by number; 0 is the
+//! program as it is.
 
 #![allow(warnings)]
 
@@ -24,6 +25,7 @@ mod record;
 mod single_call;
 mod stretch;
 mod tape;
+mod waiting;
 mod well_kept;
 
 use std::panic::catch_unwind;
@@ -51,6 +53,7 @@ fn main() {
     let mut stored = single_calls(&root);
     stored.extend(block_calls(&root));
     stored.extend(tapes(&root));
+    stored.push(waiting_orders(&root));
     // a wrong program may also give up; the stored run that it gives up on tells it apart
     std::panic::set_hook(Box::new(|_| ()));
     for number in arguments {
@@ -117,6 +120,22 @@ fn calls_of<Call: std::panic::RefUnwindSafe + 'static>(
             expected,
         })
         .collect()
+}
+
+/// The tape of the program that says what waits at its end.
+fn waiting_orders(root: &Path) -> Stored {
+    let folder = root.join("crates/waiting");
+    let calendar = read(folder.join("data/calendar.bin"));
+    let bytes = read(folder.join("stdin"));
+    Stored {
+        name: "tape of crates/waiting".into(),
+        play: Box::new(move || {
+            let mut out = Vec::new();
+            tape::write_waiting(&tape::played(&calendar, &bytes), &mut out).expect("memory");
+            out
+        }),
+        expected: read(folder.join("stdout")),
+    }
 }
 
 fn tapes(root: &Path) -> Vec<Stored> {

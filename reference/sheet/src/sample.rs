@@ -2,11 +2,10 @@
 //! the last number, counts of any value, and in some a bad row.
 
 use crate::row::{Row, MOST_ROWS};
-use stacking::book::{record_call, Book};
-use stacking::notice::NOTICE_BUFFER_BYTES;
+use stacking::book::Book;
 use stacking::random::Random;
-use stacking::record::RECORD_BYTES;
 use stacking::sample::{calendar, tape, TapeOptions};
+use stacking::tape::played;
 
 /// A calendar, a tape and the rows of a sheet over the book that it leads to.
 #[derive(Clone, Debug)]
@@ -53,16 +52,6 @@ pub fn sample(seed: u64) -> Sample {
         tape,
         rows,
     }
-}
-
-/// The book that a tape leads to, from a fresh one at day 0.
-pub fn played(calendar: &[u8], tape: &[u8]) -> Book {
-    let mut book = Book::fresh(0);
-    let mut notices = [0; NOTICE_BUFFER_BYTES];
-    for record in tape.chunks(RECORD_BYTES) {
-        record_call(&mut book, calendar, record, &mut notices);
-    }
-    book
 }
 
 /// Rows for a book: none, some or 64.

@@ -7,6 +7,7 @@ use crate::file::File;
 use crate::notice::{NoticeWriter, NOTICE_BUFFER_BYTES};
 use crate::premise;
 use crate::record::{decode, Entry, Record};
+use crate::waiting::Waiting;
 use crate::well_kept::is_well_kept;
 
 /// A book holds up to this many files.
@@ -19,6 +20,8 @@ pub struct Book {
     pub today: u16,
     /// How many of the places of `files` are used.
     pub file_count: u8,
+    /// How many held orders are in each open status.
+    pub waiting: Waiting,
     /// The files, in rising premise number; unused places are zero.
     pub files: [File; FILES_A_BOOK],
 }
@@ -29,8 +32,26 @@ impl Book {
         Book {
             today: start_day.min(LAST_DAY),
             file_count: 0,
+            waiting: Waiting::default(),
             files: [File::EMPTY; FILES_A_BOOK],
         }
+    }
+
+    /// A book of these files, which stand in rising premise number, with their
+    /// totals.
+    pub fn of_files(today: u16, files: &[File]) -> Book {
+        let mut book = Book::fresh(0);
+        book.today = today;
+        book.file_count = files.len() as u8;
+        book.files[..files.len()].copy_from_slice(files);
+        book.waiting = book.counted();
+        book
+    }
+
+    /// What the totals have to be: the count over all files that are held. Of a
+    /// damaged book it takes those that its counts speak of and that are there.
+    pub fn counted(&self) -> Waiting {
+        Waiting::count(self.files.iter().take(usize::from(self.file_count)))
     }
 
     /// The held files, in rising premise number. The count has to be in range.
@@ -44,7 +65,8 @@ impl Book {
             .binary_search_by_key(&premise, |file| file.premise)
     }
 
-    /// Row 6, and then the file takes its place among the others.
+    /// Row 6, and then the file takes its place among the others. It is a new one
+    /// and holds no order, so that the totals stay.
     pub fn insert(&mut self, place: usize, file: File) -> Result<(), Answer> {
         let count = usize::from(self.file_count);
         if count == FILES_A_BOOK {
@@ -56,7 +78,8 @@ impl Book {
         Ok(())
     }
 
-    /// The file leaves the book and frees its place.
+    /// The file leaves the book and frees its place. By row 7 none of its orders is
+    /// open, so that the totals stay.
     pub fn remove(&mut self, place: usize) {
         let count = usize::from(self.file_count);
         self.files.copy_within(place + 1..count, place);
@@ -121,9 +144,13 @@ fn premise_record(
             Ok(())
         }
         (Entry::Order(entry), Ok(place)) => {
+            let before = book.files[place];
             let file = &mut book.files[place];
-            premise::order_record(file, calendar, book.today, entry, notices)
+            premise::order_record(file, calendar, book.today, entry, notices)?;
+            book.waiting.follow(&before, &book.files[place]);
+            Ok(())
         }
+        // no order changes
         (Entry::Agreement(agreement), Ok(place)) => {
             agreement::record(&mut book.files[place], agreement, notices)
         }
@@ -141,7 +168,9 @@ fn day_mark(
     premise::is_next_day(book.today, day)?;
     book.today = day;
     for file in &mut book.files[..usize::from(book.file_count)] {
+        let before = *file;
         premise::day_mark(file, calendar, day, notices);
+        book.waiting.follow(&before, file);
     }
     Ok(())
 }

@@ -5,6 +5,7 @@ use crate::book::Book;
 use crate::days::{BusinessDays, CalendarDays};
 use crate::file::File;
 use crate::order::Order;
+use crate::waiting::Waiting;
 
 /// No call needs more bytes than this for a calendar, a record, a stretch or a
 /// buffer.
@@ -13,6 +14,9 @@ const LONGEST: usize = 1 << 20;
 pub fn push_book(bytes: &mut Vec<u8>, book: &Book) {
     bytes.extend(book.today.to_le_bytes());
     bytes.push(book.file_count);
+    for total in book.waiting.each() {
+        bytes.extend(total.to_le_bytes());
+    }
     for file in &book.files {
         bytes.extend(file.premise.to_le_bytes());
         bytes.extend(file.retailer.to_le_bytes());
@@ -117,6 +121,7 @@ impl<'a> Left<'a> {
         let mut book = Book::fresh(0);
         book.today = self.two()?;
         book.file_count = self.byte()?;
+        book.waiting = Waiting::new([self.two()?, self.two()?, self.two()?, self.two()?]);
         for file in &mut book.files {
             *file = self.file()?;
         }

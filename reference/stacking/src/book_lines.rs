@@ -4,6 +4,7 @@
 use crate::book::Book;
 use crate::file::File;
 use crate::order::Order;
+use crate::waiting::{waiting_orders, Waiting};
 use std::io::{self, Write};
 
 /// What a lent buffer is filled with.
@@ -24,14 +25,25 @@ pub fn write_changed(
     Ok(())
 }
 
+/// The totals are what the question hands out.
 pub fn write_book(book: &Book, out: &mut dyn Write) -> io::Result<()> {
-    writeln!(out, "b {} {}", book.today, book.file_count)?;
+    write!(out, "b {} {}", book.today, book.file_count)?;
+    write_totals(&waiting_orders(book), out)?;
     for (place, file) in book.files.iter().enumerate() {
         if place < usize::from(book.file_count) || *file != File::EMPTY {
             write_file(place, file, out)?;
         }
     }
     Ok(())
+}
+
+/// The end of a line: the four totals.
+pub fn write_totals(waiting: &Waiting, out: &mut dyn Write) -> io::Result<()> {
+    let [in_review, permit_pending, scheduled, cancel_pending] = waiting.each();
+    writeln!(
+        out,
+        " {in_review} {permit_pending} {scheduled} {cancel_pending}"
+    )
 }
 
 fn write_file(file_place: usize, file: &File, out: &mut dyn Write) -> io::Result<()> {

@@ -32,4 +32,5 @@ pub mod single_call;
 pub mod stored_calls;
 pub mod stretch;
 pub mod tape;
+pub mod waiting;
 pub mod well_kept;

@@ -13,6 +13,7 @@ mod evaluation;
 mod long_retailers;
 mod records;
 mod rows;
+mod totals;
 mod well_kept;
 mod windows;
 
@@ -50,6 +51,7 @@ pub fn all() -> Vec<Stored> {
         evaluation::calls(),
         rows::calls(),
         well_kept::calls(),
+        totals::calls(),
     ];
     topics.into_iter().flatten().collect()
 }
@@ -117,11 +119,7 @@ impl Stored {
 }
 
 fn book(today: u16, files: &[File]) -> Book {
-    let mut book = Book::fresh(0);
-    book.today = today;
-    book.file_count = files.len() as u8;
-    book.files[..files.len()].copy_from_slice(files);
-    book
+    Book::of_files(today, files)
 }
 
 /// The premise's file with these orders.

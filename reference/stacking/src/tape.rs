@@ -2,6 +2,7 @@
 
 use crate::answer::Answer;
 use crate::book::{record_call, Book, RecordCall};
+use crate::book_lines::write_totals;
 use crate::file::File;
 use crate::notice::NOTICE_BUFFER_BYTES;
 use crate::record::{Fields, RECORD_BYTES};
@@ -55,6 +56,22 @@ pub fn play_by(
         write_file(file, out)?;
     }
     writeln!(out, "t {} {}", reader.accepted, reader.refused)
+}
+
+/// The book that a tape leads to, from a fresh one at day 0.
+pub fn played(calendar: &[u8], tape: &[u8]) -> Book {
+    let mut book = Book::fresh(0);
+    let mut notices = [0; NOTICE_BUFFER_BYTES];
+    for record in tape.chunks(RECORD_BYTES) {
+        record_call(&mut book, calendar, record, &mut notices);
+    }
+    book
+}
+
+/// The line `q`: how many orders are in each open status, counted over the files.
+pub fn write_waiting(book: &Book, out: &mut dyn Write) -> io::Result<()> {
+    write!(out, "q")?;
+    write_totals(&book.counted(), out)
 }
 
 /// A line for each of the first `count` notices of a buffer.

@@ -7,7 +7,8 @@ use crate::file::{File, ORDERS_A_FILE};
 use crate::order::{kind, status, Order, LARGEST_RETAILER};
 
 /// Every field in range, premises rising, references distinct in a file, the
-/// days and waits that go with each status, unused places zero.
+/// days and waits that go with each status, unused places zero, and the four
+/// totals the count over all files (02, change 11).
 pub fn is_well_kept(book: &Book) -> bool {
     let count = usize::from(book.file_count);
     if !is_day(book.today) || count > FILES_A_BOOK {
@@ -17,6 +18,7 @@ pub fn is_well_kept(book: &Book) -> bool {
     held.iter().all(file_is_well_kept)
         && premises_rise(held)
         && unused.iter().all(|place| *place == File::EMPTY)
+        && book.waiting == book.counted()
 }
 
 fn premises_rise(held: &[File]) -> bool {

@@ -4,8 +4,8 @@
 
 use sheet::fill::fill;
 use sheet::row::{read_rows, MOST_ROWS, ROW_BYTES};
-use sheet::sample::played;
 use stacking::program::{self, read_calendar, read_tape, read_up_to, Arguments};
+use stacking::tape::played;
 use std::fs::File;
 use std::process::ExitCode;
 

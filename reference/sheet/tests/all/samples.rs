@@ -1,7 +1,8 @@
 //! What the random sheets meet.
 
 use sheet::fill::fill;
-use sheet::sample::{played, sample};
+use sheet::sample::sample;
+use stacking::tape::played;
 
 #[test]
 fn every_kind_of_row_is_met() {

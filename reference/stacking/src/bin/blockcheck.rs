@@ -7,7 +7,7 @@
 //! All numbers low byte first, nothing between them:
 //!
 //! ```text
-//! book                  14,659   as at the top of callcheck.rs
+//! book                  14,667   as at the top of callcheck.rs
 //! calendar length            4   then that many bytes
 //! stretch length             4   then that many bytes
 //! answer buffer length       4   no bytes: every byte of the buffer is 165

@@ -7,9 +7,13 @@
 //! written whether it is used or not:
 //!
 //! ```text
-//! book     14,659 bytes
+//! book     14,667 bytes
 //!   T                    2
 //!   number of files      1
+//!   In Review            2     how many orders are, by what the book keeps
+//!   Permit Pending       2
+//!   Scheduled            2
+//!   Cancel Pending       2
 //!   64 files, each     229 bytes
 //!     P                  8
 //!     R                  8
@@ -43,7 +47,7 @@
 //! n code K day F P addressee               each notice, as the tape program
 //! x place byte                             each byte after the notices that is
 //!                                          no longer 165
-//! b T files
+//! b T files In-Review Permit-Pending Scheduled Cancel-Pending
 //! f place P R S orders window C moved-in   each file place
 //! o place place F K Q RD SD status N W told counter
 //!                                          each order place of a file place

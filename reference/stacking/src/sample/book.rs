@@ -8,9 +8,11 @@ use crate::days::{BusinessDays, CalendarDays, LAST_DAY, NO_DAY};
 use crate::file::{File, ORDERS_A_FILE};
 use crate::order::{kind, status, Order, LARGEST_RETAILER};
 use crate::random::Random;
+use crate::waiting::Waiting;
 
 /// A well-kept book with any orders in any status. Days lie close to today, so
-/// that orders meet, and waits close to their ends.
+/// that orders meet, and waits close to their ends. Now and then all orders are in
+/// one status, so that a full book has a total that takes its second byte.
 pub fn well_kept_book(random: &mut Random) -> Book {
     let today = match random.below(4) {
         0 => random.below(usize::from(LAST_DAY) + 1) as u16,
@@ -20,15 +22,22 @@ pub fn well_kept_book(random: &mut Random) -> Book {
     let mut book = Book::fresh(today);
     let count = random.pick(&[0, 1, 1, 1, 2, 3, 10, 63, FILES_A_BOOK]);
     book.file_count = count as u8;
+    let books_status = random.chance(1, 8).then(|| random.from_to(1, 7) as u8);
     let mut premise = 0;
     for file in &mut book.files[..count] {
         premise += 1 + random.bits() % random.pick(&[1, 3, u64::MAX / 65]);
-        *file = well_kept_file(random, today, premise);
+        let one_status = books_status.or_else(|| {
+            let is_alike = random.chance(1, 4);
+            is_alike.then(|| random.from_to(1, 7) as u8)
+        });
+        *file = well_kept_file(random, today, premise, one_status);
     }
+    book.waiting = book.counted();
     book
 }
 
-fn well_kept_file(random: &mut Random, today: u16, premise: u64) -> File {
+/// Its orders are all in one status, or in any.
+fn well_kept_file(random: &mut Random, today: u16, premise: u64, one_status: Option<u8>) -> File {
     let retailer = random.pick(&[
         0,
         USUAL_RETAILER,
@@ -54,7 +63,6 @@ fn well_kept_file(random: &mut Random, today: u16, premise: u64) -> File {
     let first_reference = random.pick(&[1, 5, u32::MAX - ORDERS_A_FILE as u32]);
     // now and then one retailer has more than its share, as no tape leads to
     let one_retailer = random.chance(1, 6).then(|| order_retailer(random));
-    let one_status = random.chance(1, 4).then(|| random.from_to(1, 7) as u8);
     for (place, order) in file.held_mut().iter_mut().enumerate() {
         let status = one_status.unwrap_or_else(|| random.pick(&[1, 2, 3, 3, 3, 4, 4, 5, 6, 7]));
         *order = well_kept_order(random, today, status);
@@ -104,15 +112,21 @@ fn some_day(random: &mut Random, today: u16) -> u16 {
 }
 
 /// Sets a field, of the book or of any place in it, to a number at or beyond its
-/// limits; sometimes several. Most books are then no longer well kept.
+/// limits; sometimes several. Most books are then no longer well kept. The totals
+/// mostly follow what became of the orders, so that it is not they that tell.
 pub fn damage(random: &mut Random, book: &mut Book) {
+    let mut totals_follow = random.chance(3, 4);
     for _ in 0..random.pick(&[1, 1, 1, 3]) {
         let file = place_to_damage(random, book.file_count, FILES_A_BOOK);
-        match random.below(12) {
+        match random.below(15) {
             0 => book.today = odd_day(random),
             1 => book.file_count = random.pick(&[0, 1, 63, 64, 65, 255]),
             2..=3 => damage_file(random, &mut book.files[file]),
             4 => swap_files(random, book, file),
+            5..=7 => {
+                book.waiting = Waiting::new(odd_totals(random, book));
+                totals_follow = false;
+            }
             _ => {
                 let file = &mut book.files[file];
                 let order = place_to_damage(random, file.order_count, ORDERS_A_FILE);
@@ -120,6 +134,35 @@ pub fn damage(random: &mut Random, book: &mut Book) {
             }
         }
     }
+    if totals_follow {
+        book.waiting = book.counted();
+    }
+}
+
+/// One of the four off by one, that of a closed status or any number, or all four
+/// in another order.
+fn odd_totals(random: &mut Random, book: &Book) -> [u16; 4] {
+    let mut totals = book.waiting.each();
+    let place = random.below(4);
+    match random.below(6) {
+        0 => totals[place] = totals[place].wrapping_add(1),
+        1 => totals[place] = totals[place].wrapping_sub(1),
+        2 => {
+            let closed = random.from_to(5, 7) as u8;
+            totals[place] = orders_in(book, closed);
+        }
+        3 => totals[place] = random.pick(&[0, 1, 255, 256, 512, 513, u16::MAX]),
+        4 => totals[place] ^= 1 << random.from_to(8, 15),
+        _ => random.shuffle(&mut totals),
+    }
+    totals
+}
+
+/// How many orders of the book are in a status, as far as its counts say.
+fn orders_in(book: &Book, status: u8) -> u16 {
+    let files = book.files.iter().take(usize::from(book.file_count));
+    let orders = files.flat_map(|file| file.orders.iter().take(usize::from(file.order_count)));
+    orders.filter(|order| order.status == status).count() as u16
 }
 
 /// Mostly a used place, sometimes any.

@@ -3,6 +3,7 @@
 //! stretch has, or with 19.
 
 use super::*;
+use crate::waiting::Waiting;
 use kind::*;
 
 type Block = Stored<BlockCall>;
@@ -30,6 +31,7 @@ pub fn calls() -> Vec<Block> {
         damaged_books(),
         answer_buffers(),
         too_few_answer_bytes(),
+        totals(),
     ]
     .into_iter()
     .flatten()
@@ -715,5 +717,54 @@ fn too_few_answer_bytes() -> Vec<Block> {
         )
         .with_answer_bytes(2_729)
         .with_notice_bytes(MOST_ROOM),
+    ]
+}
+
+/// The totals of the book go on from record to record, and where they are off every
+/// record is answered 2 (change 11).
+fn totals() -> Vec<Block> {
+    let day = [
+        new_order(9, MOVE_IN, 25),
+        permit(9),
+        permit(2),
+        schedule(1, 20),
+        cancel(2),
+        reject(3),
+        mark(11),
+        unexecutable(7),
+        read(1, 11),
+        mark(12),
+    ];
+    let three = [order_of(1), mark(11), create(3, 0)];
+    let off = |name, totals| {
+        let mut book = book(TODAY, &[file(&[])]);
+        book.waiting = Waiting::new(totals);
+        block_on(name, book, &three)
+    };
+    vec![
+        block_on("10 of 10: four totals that move", totals::screen(), &day),
+        block_on(
+            "4 of 10: four totals that move until there is no room",
+            totals::screen(),
+            &day,
+        )
+        .with_notice_bytes(LEAST + 3 * 24 - 1),
+        off(
+            "3 of 3: 2, 2, 2 where the first record would make up for a total",
+            [1, 0, 0, 0],
+        ),
+        off(
+            "3 of 3: 2, 2, 2 on a book with one Permit Pending too many",
+            [0, 1, 0, 0],
+        ),
+        off(
+            "3 of 3: 2, 2, 2 on a book with one Scheduled too many",
+            [0, 0, 1, 0],
+        ),
+        off(
+            "3 of 3: 2, 2, 2 on a book with 256 Cancel Pending too many",
+            [0, 0, 0, 256],
+        ),
+        off("19: totals that are off", [0, 0, 0, 1]).with_answer_bytes(2),
     ]
 }

@@ -1,5 +1,6 @@
 //! Row 2: every clause of 'Well kept', on both sides of each limit. The record
-//! is a mark, which any well-kept book takes.
+//! is a mark, which any well-kept book takes. The totals are those of the changed
+//! book (`totals` has the others), so that each clause is seen by itself.
 
 use super::*;
 use kind::*;
@@ -42,6 +43,7 @@ fn sound() -> Book {
 fn marked(name: &'static str, change: impl Fn(&mut Book)) -> Stored {
     let mut book = sound();
     change(&mut book);
+    book.waiting = book.counted();
     let next = mark(book.today.wrapping_add(1));
     on_book(name, book, next)
 }

@@ -5,7 +5,6 @@ use crate::support::*;
 use stacking::answer::{Answer, BlockAnswer};
 use stacking::block_call::{single_calls, BlockCall};
 use stacking::book::{record_call, Book, FILES_A_BOOK};
-use stacking::file::File;
 use stacking::notice::NOTICE_BUFFER_BYTES;
 use stacking::random::Random;
 use stacking::record::{Entry, RECORD_BYTES};
@@ -84,11 +83,8 @@ fn own(entries: &[Entry]) -> Vec<u8> {
 
 /// On a book with the premise's file, on day 10; buffers that are long enough.
 fn on_file(stretch: Vec<u8>) -> BlockCall {
-    let mut book = Book::fresh(10);
-    book.file_count = 1;
-    book.files[0] = file_with(&[]);
     BlockCall {
-        book,
+        book: Book::of_files(10, &[file_with(&[])]),
         calendar: business_days(),
         answers_length: stretch.len() / RECORD_BYTES,
         stretch,
@@ -226,6 +222,7 @@ fn a_damaged_book_gets_a_2_for_each_record_and_0_as_the_answer() {
         |book| book.file_count = 65,
         |book| book.files[0].window.0 = 6,
         |book| book.files[63].moved_in = 1,
+        |book| book.waiting.scheduled = 1,
     ] {
         let mut call = on_file(three_orders());
         damage(&mut call.book);
@@ -298,12 +295,10 @@ fn the_largest_mark_within_a_stretch() {
         waiting
     });
     let mut call = on_file([mark(11).to_vec(), own(&[new_order(2, 20, 9)])].concat());
-    call.book.file_count = FILES_A_BOOK as u8;
+    let files = [0; FILES_A_BOOK].map(|_| file_with(&waits));
+    call.book = Book::of_files(10, &files);
     for (place, file) in call.book.files.iter_mut().enumerate() {
-        *file = File {
-            premise: PREMISE + place as u64,
-            ..file_with(&waits)
-        };
+        file.premise += place as u64;
     }
     for (length, expected) in [
         (NOTICE_BUFFER_BYTES, replies(1, 1_024)),

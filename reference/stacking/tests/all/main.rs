@@ -19,4 +19,5 @@ mod single_calls;
 mod steps;
 mod support;
 mod tape;
+mod waiting;
 mod window;

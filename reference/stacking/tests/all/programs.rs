@@ -83,12 +83,12 @@ fn calls_are_read_as_they_were_written() {
 /// A call written by hand, byte by byte as the layout says.
 #[test]
 fn a_call_byte_by_byte() {
-    let mut call = vec![5, 0, 1];
+    let mut call = vec![5, 0, 1, 1, 0, 0, 0, 0, 0, 0, 0];
     call.extend([7, 0, 0, 0, 0, 0, 0, 0, 255, 159, 114, 78, 24, 9, 0, 0, 4, 0]);
     call.extend([1, 3, 132, 3, 0, 0, 0, 0, 0, 0, 1]);
     call.extend([9, 0, 0, 0, 1, 123, 16, 165, 212, 232, 0, 0, 0]);
     call.extend([6, 0, 0, 16, 1, 2, 0, 0, 3, 1, 0, 0]);
-    call.resize(14_659, 0);
+    call.resize(14_667, 0);
     call.extend([6, 0, 0, 0, 2, 2, 2, 2, 2, 0]);
     let scheduled = [
         4, 0, 8, 0, 9, 0, 0, 0, 7, 0, 0, 0, 0, 0, 0, 0, 0, 0, 0, 0, 0, 0, 0, 0,
@@ -98,11 +98,12 @@ fn a_call_byte_by_byte() {
     call.extend(scheduled);
     call.extend([0, 96, 0, 0]);
     let lines = "c 1 0 2\nn 3 1 8 9 7 1000000000123\nn 4 1 8 9 7 9999999999999\n\
-                 b 5 1\nf 0 7 9999999999999 4 1 3 900 1\no 0 0 9 1 1000000000123 6 8 3 2 0 1 259\n";
+                 b 5 1 0 0 1 0\nf 0 7 9999999999999 4 1 3 900 1\n\
+                 o 0 0 9 1 1000000000123 6 8 3 2 0 1 259\n";
     assert_eq!(text(CALLCHECK, "", &call), lines);
     // the same on a book that is damaged in an unused place
-    call[14_658] = 1;
-    let lines = "c 1 2 0\nb 5 1\nf 0 7 9999999999999 4 1 3 900 1\n\
+    call[14_666] = 1;
+    let lines = "c 1 2 0\nb 5 1 1 0 0 0\nf 0 7 9999999999999 4 1 3 900 1\n\
                  o 0 0 9 1 1000000000123 6 4096 1 2 0 0 259\n\
                  f 63 0 0 0 0 0 0 0\no 63 7 0 0 0 0 0 0 0 0 0 16777216\n";
     assert_eq!(text(CALLCHECK, "", &call), lines);
@@ -112,9 +113,9 @@ fn a_call_byte_by_byte() {
 /// byte more than records, room for the second order and no more.
 #[test]
 fn a_block_call_byte_by_byte() {
-    let mut call = vec![5, 0, 1];
+    let mut call = vec![5, 0, 1, 0, 0, 0, 0, 0, 0, 0, 0];
     call.extend([7, 0, 0, 0, 0, 0, 0, 0, 101, 0, 0, 0, 0, 0, 0, 0, 4, 0, 0, 2]);
-    call.resize(14_659, 0);
+    call.resize(14_667, 0);
     call.extend([3, 0, 0, 0, 0, 0, 0]);
     let order = |reference| {
         [
@@ -129,19 +130,25 @@ fn a_block_call_byte_by_byte() {
     call.extend([1, 2, 3, 4, 5]);
     let lent = call.len();
     call.extend([4, 0, 0, 0, 24, 96, 0, 0]);
-    let lines = "c 1 0 2 2\na 0 0\na 1 0\nn 2 2 9 1 7 0\nn 2 2 9 2 7 0\nb 5 1\n\
+    let lines = "c 1 0 2 2\na 0 0\na 1 0\nn 2 2 9 1 7 0\nn 2 2 9 2 7 0\nb 5 1 2 0 0 0\n\
                  f 0 7 101 4 2 2 0 0\no 0 0 1 2 202 9 4096 1 0 0 0 0\n\
                  o 0 1 2 2 202 9 4096 1 0 0 0 0\n";
     assert_eq!(text(BLOCKCHECK, "", &call), lines);
     // two answer bytes are one too few
     call[lent] = 2;
-    let lines = "c 1 19 0 0\nb 5 1\nf 0 7 101 4 0 2 0 0\n";
+    let lines = "c 1 19 0 0\nb 5 1 0 0 0 0\nf 0 7 101 4 0 2 0 0\n";
     assert_eq!(text(BLOCKCHECK, "", &call), lines);
     // on a damaged book every record is answered 2
     call[lent] = 3;
     call[2] = 65;
+    let refused = "c 1 0 3 0\na 0 2\na 1 2\na 2 2\n";
     let printed = text(BLOCKCHECK, "", &call);
-    assert!(printed.starts_with("c 1 0 3 0\na 0 2\na 1 2\na 2 2\nb 5 65\nf 0 7 101 4 0 2 0 0\n"));
+    assert!(printed.starts_with(&format!("{refused}b 5 65 0 0 0 0\nf 0 7 101 4 0 2 0 0\n")));
+    // and on one whose totals alone are off, in each of their bytes
+    call[2] = 1;
+    call[3..11].copy_from_slice(&[1, 2, 3, 4, 5, 6, 7, 8]);
+    let lines = format!("{refused}b 5 1 513 1027 1541 2055\nf 0 7 101 4 0 2 0 0\n");
+    assert_eq!(text(BLOCKCHECK, "", &call), lines);
 }
 
 /// The single calls that block calls stand for, made one by one, give the same

@@ -7,6 +7,7 @@ use stacking::file::{File, ORDERS_A_FILE};
 use stacking::order::Order;
 use stacking::random::Random;
 use stacking::sample::{damage, well_kept_book};
+use stacking::waiting::Waiting;
 use stacking::well_kept::is_well_kept;
 
 /// Is the book answered 2? And if so, was it left as it was?
@@ -38,12 +39,15 @@ fn book() -> Book {
     let file = &mut book.files[1];
     file.orders[..6].copy_from_slice(&orders);
     file.order_count = 6;
+    book.waiting = Waiting::new([1, 1, 1, 1]);
     book
 }
 
 fn with(change: impl Fn(&mut Book)) -> Book {
     let mut changed = book();
     change(&mut changed);
+    // the clause by itself: the totals are those of the changed book
+    changed.waiting = changed.counted();
     changed
 }
 
@@ -78,11 +82,9 @@ fn counts_of_files() {
         // one fewer leaves a file in an unused place, one more counts an empty one
         assert!(answered_2(&with(|book| book.file_count = count)), "{count}");
     }
-    let mut full = book();
-    for (place, file) in full.files.iter_mut().enumerate() {
-        *file = File::new(place as u64 + 1, 0, 0);
-    }
-    full.file_count = FILES_A_BOOK as u8;
+    let full_file = |place| File::new(place + 1, 0, 0);
+    let files: Vec<File> = (0..FILES_A_BOOK as u64).map(full_file).collect();
+    let mut full = Book::of_files(100, &files);
     assert!(!answered_2(&full));
     for count in 65..=255 {
         full.file_count = count;

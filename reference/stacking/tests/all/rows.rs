@@ -17,12 +17,9 @@ struct Case {
 impl Case {
     /// On day 300, one file with these orders, all days business days.
     fn new(answer: u8, orders: &[Order], entry: Entry) -> Case {
-        let mut book = Book::fresh(300);
-        book.file_count = 1;
-        book.files[0] = file_with(orders);
         Case {
             answer,
-            book,
+            book: Book::of_files(300, &[file_with(orders)]),
             calendar: business_days(),
             record: of_premise(PREMISE, entry).to_vec(),
         }

@@ -169,12 +169,9 @@ impl Desk {
 
     /// A desk whose premise has this file, on a given day.
     pub fn with_file(today: u16, calendar: Vec<u8>, file: File) -> Desk {
-        let mut book = Book::fresh(today);
-        book.file_count = 1;
-        book.files[0] = file;
         Desk {
             calendar,
-            book,
+            book: Book::of_files(today, &[file]),
             rules: OnePremise {
                 today,
                 file: Some(file),

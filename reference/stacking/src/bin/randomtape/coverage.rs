@@ -17,6 +17,7 @@ use stacking::premise;
 use stacking::record::{
     decode, Agreement, Entry, Event, Fields, NewOrder, OrderEntry, Record, RECORD_BYTES,
 };
+use stacking::waiting::waiting_orders;
 use std::collections::HashSet;
 use std::io::{self, Write};
 
@@ -72,6 +73,18 @@ const ENDS_ALIKE: [&str; 5] = [
     "notice 10 to a retailer that ends like the new one",
     "notice 4 to a retailer that ends like Q",
     "no answer 26 for four orders of retailers that end like Q",
+];
+
+/// The open statuses, in the order of their totals.
+const OPEN_STATUSES: [&str; 4] = ["In Review", "Permit Pending", "Scheduled", "Cancel Pending"];
+
+/// How calls move the totals of the open statuses (02, change 11).
+const MOVES: [&str; 5] = [
+    "a record that moves totals for two orders of its file",
+    "a record that moves totals for three or more orders of its file",
+    "a mark that moves totals for one file of several",
+    "a mark that moves totals for several files",
+    "a mark that moves totals and leaves the first file's",
 ];
 
 /// A pass of the evaluation.
@@ -130,6 +143,12 @@ pub struct Coverage {
     late_reads: u64,
     /// A premise created that had been retired.
     created_again: u64,
+    /// By open status: calls whose total grows, shrinks.
+    totals: [[u64; 2]; 4],
+    /// By place in [`MOVES`].
+    moves: [u64; MOVES.len()],
+    /// The most orders in an open status.
+    most_waiting: [u16; 4],
 }
 
 impl Coverage {
@@ -156,6 +175,7 @@ impl Coverage {
                 self.count_losers(&book, notices);
                 self.count_steps(&before, calendar, &record);
                 self.count_created_again(&record, &mut retired);
+                self.count_totals(&before, &book, &record);
             }
         }
     }
@@ -191,6 +211,41 @@ impl Coverage {
                 }
                 _ => {}
             }
+        }
+    }
+
+    /// What became of the totals, and of how many orders and files.
+    fn count_totals(&mut self, before: &Book, after: &Book, record: &Record) {
+        let (old, new) = (waiting_orders(before).each(), waiting_orders(after).each());
+        for (place, counts) in self.totals.iter_mut().enumerate() {
+            counts[0] += u64::from(new[place] > old[place]);
+            counts[1] += u64::from(new[place] < old[place]);
+            self.most_waiting[place] = self.most_waiting[place].max(new[place]);
+        }
+        let moved: Vec<usize> = after
+            .held()
+            .iter()
+            .map(|file| match before.place_of(file.premise) {
+                Ok(place) => orders_moved(&before.files[place], file),
+                Err(_) => 0,
+            })
+            .collect();
+        let (orders, files) = (
+            moved.iter().sum::<usize>(),
+            moved.iter().filter(|&&orders| orders > 0).count(),
+        );
+        let met = match record {
+            Record::OfPremise { .. } => [orders == 2, orders > 2, false, false, false],
+            Record::DayMark { .. } => [
+                false,
+                false,
+                files == 1 && moved.len() > 1,
+                files > 1,
+                files > 0 && moved[0] == 0,
+            ],
+        };
+        for (count, met) in self.moves.iter_mut().zip(met) {
+            *count += u64::from(met);
         }
     }
 
@@ -441,6 +496,16 @@ impl Coverage {
         lines.push(("oldest closed order dropped".into(), self.dropped));
         lines.push(("read before since".into(), self.late_reads));
         lines.push(("retired premise created again".into(), self.created_again));
+        for (name, [grew, shrank]) in OPEN_STATUSES.iter().zip(self.totals) {
+            lines.push((format!("total of {name} grows"), grew));
+            lines.push((format!("total of {name} shrinks"), shrank));
+        }
+        for (name, &count) in MOVES.iter().zip(&self.moves) {
+            lines.push(((*name).into(), count));
+        }
+        for (name, &most) in OPEN_STATUSES.iter().zip(&self.most_waiting) {
+            lines.push((format!("orders {name}, the most at once"), most.into()));
+        }
         lines
     }
 
@@ -491,6 +556,17 @@ fn with_writer<T>(step: impl FnOnce(&mut NoticeWriter) -> T) -> T {
 fn file_of(book: &Book, premise: u64) -> &File {
     let file = book.held().iter().find(|file| file.premise == premise);
     file.expect("the record came past row 4")
+}
+
+/// How many orders came, or changed their status, in a file.
+fn orders_moved(before: &File, after: &File) -> usize {
+    let status_before = |order: &Order| {
+        let place = before.place_of(order.reference)?;
+        Some(before.orders[place].status)
+    };
+    let held = after.held().iter();
+    held.filter(|order| status_before(order) != Some(order.status))
+        .count()
 }
 
 /// The retailer that a record names, if its kind does.

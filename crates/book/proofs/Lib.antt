@@ -18,3 +18,4 @@ pub mod Row6
 pub mod Rows
 pub mod RowsInOrder
 pub mod SameFiles
+pub mod Totals

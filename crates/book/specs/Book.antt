@@ -12,6 +12,7 @@ use Rattle.premise.specs.declared.File.{File}
 use Rattle.premise.specs.Orders.{blankFile}
 use Rattle.premise.specs.WellKept.{fileKeptBy, fileBlank}
 use Rattle.book.specs.declared.Book.{Book}
+use Rattle.book.specs.Totals.{waitingIn, sameTotals}
 
 -- up to 64 files
 abbrev pub mostFiles : ℕ
@@ -21,9 +22,16 @@ mostFiles = 64
 abbrev pub filesOf : Book → List File
 filesOf b = take (b .count) (b .files)
 
--- the book with a day and some files, its other places zero
+-- The book with a day and some files, its other places zero. Document 02, change 11: "The book keeps four totals that every call keeps
+-- true": they are made of the files, so that books of one day and equal files are equal, and every book that a call makes has them.
 unfoldable pub bookOf : ℕ → List File → Book
-bookOf today files = record { today = today; count = length files; files = files ++ replicate (mostFiles - length files) blankFile }
+bookOf today files =
+    record {
+      today = today;
+      count = length files;
+      waiting = waitingIn files;
+      files = files ++ replicate (mostFiles - length files) blankFile;
+    }
 
 -- A fresh one is made from a start day; above 4,095 it starts at 4,095.
 abbrev pub freshBook : ℕ → Book
@@ -35,7 +43,7 @@ risesFrom n [] = true
 risesFrom n (f ∷ fs) = ltb n (f .premise) && risesFrom (f .premise) fs
 
 -- Well kept: T and every file in range, P rising, unused places zero. (It has 64 places by its type; the definition, over lists, says so.)
--- Document 02, change 7: retailers are in range by the layout's limit.
+-- Document 02, change 7: retailers are in range by the layout's limit. Change 11: "A book whose totals are off is not well kept."
 unfoldable pub bookKeptBy : Layout → Book → Bool
 bookKeptBy layout b =
     isDay (b .today)
@@ -43,6 +51,7 @@ bookKeptBy layout b =
     && eqb (length (b .files)) mostFiles
     && allOf (fileKeptBy layout) (filesOf b)
     && risesFrom 0 (filesOf b)
+    && sameTotals (b .waiting) (waitingIn (filesOf b))
     && allOf fileBlank (drop (b .count) (b .files))
 
 abbrev pub bookKept : Book → Bool

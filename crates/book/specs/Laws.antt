@@ -1,5 +1,5 @@
 -- What the layers above rely on about the book, as statements; proofs/ proves each.
-use Prim.Native.Nat.{ℕ, _*_, _≤_, _<_}
+use Prim.Native.Nat.{ℕ, _+_, _*_, _≤_, _<_}
 use mathlib.Core.Path.{_≡_}
 use mathlib.Core.Logic.{_↔_, _⊎_}
 use mathlib.Core.List.{List, [], _∷_, _++_, map}
@@ -8,6 +8,7 @@ use mathlib.Core.Bool.{true, false}
 use lib.Dec.{ltb}
 use lib.ListN.{length, getD, set}
 use Rattle.lists.specs.Search.{Each}
+use Rattle.lists.specs.Shift.{inserted, removed}
 use Rattle.days.specs.Days.{lastDay}
 use Rattle.records.specs.declared.Record.{Record}
 use Rattle.records.specs.declared.Reading.the-variants.{Malformed, Says}
@@ -25,6 +26,7 @@ use Rattle.premise.specs.Promises.{StaysHeld}
 use Rattle.premise_laws.specs.Laws.{KeptFor}
 use Rattle.premise_laws.specs.Retailers.{RetailersUpTo}
 use Rattle.book.specs.declared.Book.{Book}
+use Rattle.book.specs.Totals.{ordersWith, ordersIn, waitingIn}
 use Rattle.book.specs.Book.{mostFiles, filesOf, bookOf, freshBook, risesFrom, bookKeptBy, bookKept, fileFor}
 use Rattle.book.specs.Calls.{noticeBytes, callRows, meetsRow6, markedFiles, markedNotices, premiseState, Result, onPremise, refusal}
 use Rattle.book.specs.Calls.{callBy, call, onDayMark}
@@ -50,7 +52,30 @@ BookKeptMeans = (b : Book) → (bookKept b ≡ true) ↔ BookKept b
 abbrev pub BookKeptByEither : Type 0
 BookKeptByEither = (b : Book) → Each (RetailersUpTo (narrow .lastRetailer)) (filesOf b) → bookKeptBy narrow b ≡ bookKeptBy wide b
 
--- a book made of files holds them
+-- ---- the four totals
+-- Document 02, change 11: "A book whose totals are off is not well kept."
+abbrev pub TotalsOff : Type 0
+TotalsOff = (b : Book) → (b .waiting ≡ waitingIn (filesOf b) → ⊥) → bookKept b ≡ false
+
+-- The count over files with another one at a place, plus that of the file that stood there, is the count over the files plus that of the
+-- other; so a stored file moves the totals by two files only.
+abbrev pub CountAfterStore : Type 0
+CountAfterStore =
+    (status : ℕ) (fs : List File) (at : ℕ) (past g : File) → at < length fs
+    → ordersIn status (set fs at g) + ordersWith status (getD fs at past) ≡ ordersIn status fs + ordersWith status g
+
+-- with a file put in at a place, and without the one at a place
+abbrev pub CountAfterInsert : Type 0
+CountAfterInsert =
+    (status : ℕ) (fs : List File) (at : ℕ) (g : File) → ordersIn status (inserted at g fs) ≡ ordersIn status fs + ordersWith status g
+
+abbrev pub CountAfterRemove : Type 0
+CountAfterRemove =
+    (status : ℕ) (fs : List File) (at : ℕ) (past : File) → at < length fs
+    → ordersIn status (removed at fs) + ordersWith status (getD fs at past) ≡ ordersIn status fs
+
+-- ---- a book made of files
+-- it holds them
 abbrev pub HoldsItsFiles : Type 0
 HoldsItsFiles = (today : ℕ) (fs : List File) → filesOf (bookOf today fs) ≡ fs
 
@@ -135,9 +160,10 @@ pub record OnHeld (b : Book) (at : ℕ) (past : File) (r : Record) : Type 0 wher
   pub own : getD (b .files) at past .premise ≡ r .premise
   pub kind : StaysHeld r
 
--- the book with another file at a place
+-- the book with another file at a place, and its totals
 abbrev pub withFileAt : Book → ℕ → File → Book
-withFileAt b at g = record { today = b .today; count = b .count; files = set (b .files) at g }
+withFileAt b at g =
+    record { today = b .today; count = b .count; waiting = waitingIn (set (filesOf b) at g); files = set (b .files) at g }
 
 -- the premise numbers of all its places, 0 where a place is unused
 abbrev pub numbersOf : Book → List ℕ

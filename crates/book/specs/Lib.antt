@@ -1,3 +1,4 @@
+pub mod Totals
 pub mod Book
 pub mod Calls
 pub mod Laws

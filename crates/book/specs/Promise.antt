@@ -7,6 +7,7 @@ use Rattle.records.specs.Notices.{EmitsBy}
 use Rattle.premise.specs.Orders.{keptWidth}
 use Rattle.book.specs.declared.Book.{Book}
 use Rattle.book.specs.declared.Reply.{Reply}
+use Rattle.book.specs.declared.Waiting.{Waiting}
 use Rattle.book.specs.Calls.{callBy}
 
 -- Acceptance returns 0 and the count n; the first 24 × n bytes hold the notices and the rest stays. A refusal has no notices.
@@ -18,6 +19,10 @@ pub record PromisedBy (layout : Layout) (calendar : List ℕ) (b : Book) (bytes 
 -- The promise that the code keeps: by the wide layout.
 abbrev pub Promised : List ℕ → Book → List ℕ → List ℕ → Reply → List ℕ → Type 0
 Promised = PromisedBy wide
+
+-- Document 02, change 11: "the question returns the stored four, from any book". What it promises, of a damaged book too.
+abbrev pub Shown : Book → Waiting → Type 0
+Shown b shown = shown ≡ b .waiting
 
 -- Nothing is free: two replies that are promised for one call are the same, and so are the two buffers.
 pub record Same (r s : Reply) (after later : List ℕ) : Type 0 where

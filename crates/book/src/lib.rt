@@ -8,10 +8,20 @@ pub const MOST_FILES: usize = 64;
 // The shortest notice buffer that is taken: room for 1,024 notices, two for each order of a full book.
 pub const NOTICE_BYTES: usize = 24_576;
 
+// How many of the orders that a book's files hold are In Review, Permit Pending, Scheduled and Cancel Pending. (There are at most 512.)
+pub struct Waiting {
+    pub review: u16,
+    pub permit: u16,
+    pub scheduled: u16,
+    pub cancel: u16,
+}
+
 // The book, handed over by value. The first `count` places of `files` hold its files, in rising premise numbers; the others are zero.
 pub struct Book {
     pub today: u16,
     pub count: usize,
+    // the four totals over its files, which every call keeps true
+    pub waiting: Waiting,
     pub files: [File; 64],
 }
 

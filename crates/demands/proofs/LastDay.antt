@@ -25,6 +25,7 @@ use Rattle.premise.specs.WellKept.{orderKeptBy, isBlank, fileKeptBy, fileBlank}
 use Rattle.premise.specs.Refusals.{number, premiseRows, orderRows}
 use Rattle.premise.specs.OnePremise.{startState, runs, markedWith, stepWith, steppedWith}
 use Rattle.book.specs.declared.Book.{Book}
+use Rattle.book.specs.Totals.{waitingIn}
 use Rattle.book.specs.Book.{freshBook, bookOf, bookKeptBy, fileFor, putIn, takenOut}
 use Rattle.book.specs.Calls.{noticeBytes, callRowsBy, callBy}
 use Rattle.demands.specs.Demand3.{Made, Played, lastBook, Premise, records, withPremise, noticesFor, ruledNotices}
@@ -64,7 +65,7 @@ unfolding reviewed permitAwaited cancelAwaited ticked contends switchOfDay gives
     permitOvertaken isDue lossNotice evaluation refuses standsInWay notFirstIn markedWith steppedWith stepWith places number premiseRows
     orderRows requestedDay makeRoom ordered taken onScheduled onPermit onUnexecutable onRead supplied onCancel onReply onOrder onDateChange
     onNamed changed agreed orderKeptBy isBlank fileKeptBy fileBlank fieldOf encodeBy wellFormedBy readingBy kindOfDay isBusinessDay
-    switchDate businessDays inWindow bookOf bookKeptBy fileFor putIn takenOut callRowsBy callBy lent made plays create7 create5 switch7
+    switchDate businessDays inWindow waitingIn bookOf bookKeptBy fileFor putIn takenOut callRowsBy callBy lent made plays create7 create5 switch7
     switch5 scheduled7 scheduled5 mark retire6 oneByte notices7 notices5 tape tape₂ tape₃
 computed = record {
   first = record { short = record { real = refl; few = omega arith }; numbers = refl };

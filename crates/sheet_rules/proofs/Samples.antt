@@ -7,6 +7,7 @@ use lib.Dec.{leb}
 use borrow.Author.Tests.{leb-true, leb-false, lt-leb}
 use Rattle.lists.specs.Search.{countOf}
 use Rattle.premise.specs.WellKept.{orderKeptBy, isBlank, fileKeptBy, fileBlank}
+use Rattle.book.specs.Totals.{waitingIn}
 use Rattle.book.specs.Book.{bookOf, bookKeptBy}
 use Rattle.sheet_rules.specs.declared.SheetAnswer.the-variants.{Filled}
 use Rattle.sheet_rules.specs.Sheet.{number, inRange, tallyOf, counted, rowSound, sheetAnswer, rowsAfter, Fills}
@@ -31,7 +32,7 @@ apart p = go (leb 20 p) refl (leb 40 p) refl
     go false e false f = rw (e, f) (omega (arith, most (inRange 10 19 p)))
 
 pub sums-met : SumsMet
-unfolding orderKeptBy isBlank fileKeptBy fileBlank bookOf bookKeptBy number tallyOf counted rowSound sheetAnswer rowsAfter
+unfolding orderKeptBy isBlank fileKeptBy fileBlank waitingIn bookOf bookKeptBy number tallyOf counted rowSound sheetAnswer rowsAfter
 sums-met =
     let promised : Fills three falling Filled fallingFilled = record { answered = refl; rows = refl } in
     let covers : Covers falling three = (refl, (refl, (refl, tt))) in

@@ -16,6 +16,7 @@ use Rattle.premise.specs.FirstIn.{refuses, standsInWay, notFirstIn}
 use Rattle.premise.specs.WellKept.{orderKeptBy, isBlank, fileKeptBy, fileBlank}
 use Rattle.premise.specs.Refusals.{number, premiseRows, orderRows}
 use Rattle.premise.specs.OnePremise.{markedWith, stepWith, steppedWith}
+use Rattle.book.specs.Totals.{waitingIn}
 use Rattle.book.specs.Book.{bookOf, bookKeptBy, fileFor, putIn, takenOut}
 use Rattle.book.specs.Calls.{callRowsBy, callBy}
 use Rattle.book.specs.CallsInRow.{callsInRow}
@@ -28,18 +29,18 @@ use Rattle.stretch_rules.specs.Samples.{allHold, Books}
 pub samples : allHold ≡ true
 unfolding reviewed permitAwaited cancelAwaited ticked contends switchOfDay givesWay sameDaySwitch isDisplaced dropOnSwitchDay isOvertaken
     permitOvertaken isDue lossNotice evaluation refuses standsInWay notFirstIn markedWith steppedWith stepWith places number premiseRows
-    orderRows requestedDay makeRoom ordered taken onScheduled onPermit onUnexecutable onRead supplied onCancel onReply onOrder
-    onDateChange onNamed changed agreed orderKeptBy isBlank fileKeptBy fileBlank fieldOf encodeBy wellFormedBy readingBy kindOfDay
-    isBusinessDay switchDate businessDays inWindow bookOf bookKeptBy fileFor putIn takenOut callRowsBy callBy callsInRow create7 create5
-    order7 order5 scheduled7 scheduled5 mark1 malformed calendar ordered7 ordered5 dated7 dated5 losing7 losing5 wholeRecords stretchCall
+    orderRows requestedDay makeRoom ordered taken onScheduled onPermit onUnexecutable onRead supplied onCancel onReply onOrder onDateChange
+    onNamed changed agreed orderKeptBy isBlank fileKeptBy fileBlank fieldOf encodeBy wellFormedBy readingBy kindOfDay isBusinessDay
+    switchDate businessDays inWindow waitingIn bookOf bookKeptBy fileFor putIn takenOut callRowsBy callBy callsInRow create7 create5 order7
+    order5 scheduled7 scheduled5 mark1 malformed calendar ordered7 ordered5 dated7 dated5 losing7 losing5 wholeRecords stretchCall
     stretchNumber
 samples = refl
 
 pub books : Books
 unfolding reviewed permitAwaited cancelAwaited ticked contends switchOfDay givesWay sameDaySwitch isDisplaced dropOnSwitchDay isOvertaken
     permitOvertaken isDue lossNotice evaluation refuses standsInWay notFirstIn markedWith steppedWith stepWith places number premiseRows
-    orderRows requestedDay makeRoom ordered taken onScheduled onPermit onUnexecutable onRead supplied onCancel onReply onOrder
-    onDateChange onNamed changed agreed orderKeptBy isBlank fileKeptBy fileBlank fieldOf encodeBy wellFormedBy readingBy kindOfDay
-    isBusinessDay switchDate businessDays inWindow bookOf bookKeptBy fileFor putIn takenOut callRowsBy callBy callsInRow lent made plays
-    create7 create5 order7 order5 scheduled7 scheduled5 mark1 malformed calendar wholeRecords stretchCall
+    orderRows requestedDay makeRoom ordered taken onScheduled onPermit onUnexecutable onRead supplied onCancel onReply onOrder onDateChange
+    onNamed changed agreed orderKeptBy isBlank fileKeptBy fileBlank fieldOf encodeBy wellFormedBy readingBy kindOfDay isBusinessDay
+    switchDate businessDays inWindow waitingIn bookOf bookKeptBy fileFor putIn takenOut callRowsBy callBy callsInRow lent made plays create7
+    create5 order7 order5 scheduled7 scheduled5 mark1 malformed calendar wholeRecords stretchCall
 books = record { seven = refl; files = refl; same = refl }

@@ -13,6 +13,7 @@ use Rattle.premise.specs.WellKept.{orderKeptBy, isBlank, fileKeptBy, fileBlank}
 use Rattle.premise.specs.Refusals.{number, premiseRows, orderRows}
 use Rattle.premise.specs.OnePremise.{steppedWith, stepWith}
 use Rattle.book.specs.declared.Book.{Book}
+use Rattle.book.specs.Totals.{waitingIn}
 use Rattle.book.specs.Book.{bookOf, bookKeptBy, bookKept, freshBook, fileFor, putIn, takenOut}
 use Rattle.book.specs.Calls.{callRowsBy, callBy}
 use Rattle.book.proofs.Kept.{fresh-kept}
@@ -88,5 +89,5 @@ equal =
 
 pub comes : Comes
 unfolding places number premiseRows orderRows steppedWith stepWith orderKeptBy isBlank fileKeptBy fileBlank fieldOf encodeBy wellFormedBy
-    readingBy bookOf bookKeptBy fileFor putIn takenOut callRowsBy callBy lent made plays
+    readingBy waitingIn bookOf bookKeptBy fileFor putIn takenOut callRowsBy callBy lent made plays
 comes = record { same = tapes .same; books = equal; room = refl; full = refl; left = refl; fewer = refl }

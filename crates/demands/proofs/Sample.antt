@@ -21,9 +21,10 @@ use Rattle.premise.specs.FirstIn.{refuses, standsInWay, notFirstIn}
 use Rattle.premise.specs.WellKept.{orderKeptBy, isBlank, fileKeptBy, fileBlank}
 use Rattle.premise.specs.Refusals.{number, premiseRows, orderRows}
 use Rattle.premise.specs.OnePremise.{markedWith, stepWith, steppedWith}
+use Rattle.book.specs.Totals.{waitingIn}
 use Rattle.book.specs.Book.{bookOf, bookKeptBy, fileFor, putIn, takenOut}
 use Rattle.book.specs.Calls.{callRowsBy, callBy}
-use Rattle.demands.specs.Demand3.{SameBooks}
+use Rattle.demands.specs.Demand3.{Premise, ownBytes, SameBooks}
 use Rattle.demands.specs.Tapes.{ownOf}
 use Rattle.demands.proofs.Demand3.{demand-3}
 use Rattle.demands.proofs.Tapes.{own-of-made, Marked, keptOf, own-marked}
@@ -38,7 +39,7 @@ unfolding reviewed permitAwaited cancelAwaited ticked contends switchOfDay gives
     permitOvertaken isDue lossNotice evaluation refuses standsInWay notFirstIn markedWith steppedWith stepWith places number premiseRows
     orderRows requestedDay makeRoom ordered taken onScheduled onPermit onUnexecutable onRead supplied onCancel onReply onOrder onDateChange
     onNamed changed agreed orderKeptBy isBlank fileKeptBy fileBlank fieldOf encodeBy wellFormedBy readingBy kindOfDay isBusinessDay
-    switchDate businessDays inWindow bookOf bookKeptBy fileFor putIn takenOut callRowsBy callBy lent made plays create7 create5 order7
+    switchDate businessDays inWindow waitingIn bookOf bookKeptBy fileFor putIn takenOut callRowsBy callBy lent made plays create7 create5 order7
     order5 change5 establish7 scheduled7 scheduled5 mark1 malformed calendar tape sample shuffled again ordered7 agreed7 dated7 losing7
     ordered5 changed5 dated5 losing5 buffers
 comes = record {
@@ -88,19 +89,25 @@ agree premise =
     ∙ sym (own-marked premise shuffled (marks₂ (eqb 7 premise) (eqb 5 premise)) (marked-both premise .second))
 
 -- so that demand 3 says of the two that they leave the same book
-record Shorts : Type 0 where
-  first : Short tape
-  second : Short shuffled
+pub record Shorts : Type 0 where
+  pub first : Short tape
+  pub second : Short shuffled
 
-shorts : Shorts
+pub shorts : Shorts
 unfolding create7 create5 order7 order5 change5 establish7 scheduled7 scheduled5 mark1 malformed tape shuffled
 shorts = record { first = record { real = refl; few = omega arith }; second = record { real = refl; few = omega arith } }
+
+pub agree-made : (premise : ℕ) → Premise premise → ownBytes premise sample ≡ ownBytes premise again
+unfolding sample again
+agree-made premise i =
+    let p = by-definition calendar 0 tape (shorts .first) in
+    let q = by-definition calendar 0 shuffled (shorts .second) in
+    own-of-made premise sample ∙ ap (ownOf premise) (p .fed) ∙ agree premise
+    ∙ sym (own-of-made premise again ∙ ap (ownOf premise) (q .fed))
 
 pub same : SameBooks 0 sample again
 unfolding sample again
 same =
     let p = by-definition calendar 0 tape (shorts .first) in
     let q = by-definition calendar 0 shuffled (shorts .second) in
-    demand-3 .shuffled calendar 0 sample again (p .played) (p .allowed) (q .played) (q .allowed) (λ premise i.
-    own-of-made premise sample ∙ ap (ownOf premise) (p .fed) ∙ agree premise
-    ∙ sym (own-of-made premise again ∙ ap (ownOf premise) (q .fed)))
+    demand-3 .shuffled calendar 0 sample again (p .played) (p .allowed) (q .played) (q .allowed) agree-made

@@ -1,4 +1,5 @@
 pub mod Before
+pub mod Moves
 pub mod Numbers
 pub mod Places
 pub mod PutIn

@@ -8,6 +8,8 @@ use lib.Seq.{drop-at, getD-take}
 use Rattle.premise.specs.declared.File.{File}
 use Rattle.premise.specs.Orders.{blankFile}
 use Rattle.book.specs.declared.Book.{Book}
+use Rattle.book.specs.declared.Waiting.{Waiting}
+use Rattle.book.specs.Totals.{waitingIn}
 use Rattle.book.specs.Book.{mostFiles, filesOf, bookOf}
 use Rattle.book.specs.Laws.{TidyBook}
 use Rattle.book.proofs.Kept.{count-is}
@@ -16,9 +18,12 @@ use Rattle.book.proofs.Kept.{count-is}
 abbrev pub past : File
 past = record { premise = 0; retailer = 0; since = 0; window = 0; agreement = 0; entered = 0; count = 0; orders = [] }
 
--- a book with its count and its places set
+-- a book with its count, its totals and its places set; the totals as they were
+abbrev pub withTotals : Book → ℕ → Waiting → List File → Book
+withTotals b n totals fs = record { today = b .today; count = n; waiting = totals; files = fs }
+
 abbrev pub withPlaces : Book → ℕ → List File → Book
-withPlaces b n fs = record { today = b .today; count = n; files = fs }
+withPlaces b n fs = withTotals b n (b .waiting) fs
 
 -- ---- unused places
 unfoldable pub spare : ℕ → List File
@@ -39,10 +44,11 @@ unfolding spare
 spare-at k j h = getD-replicate k j blankFile past h
 
 -- ---- a book made of its files
-pub book-is : (today n : ℕ) (places fs : List File) → n ≡ length fs → places ≡ fs ++ spare (mostFiles - length fs)
-    → _≡_ {A = Book} (record { today = today; count = n; files = places }) (bookOf today fs)
+pub book-is : (today n : ℕ) (totals : Waiting) (places fs : List File) → n ≡ length fs → totals ≡ waitingIn fs
+    → places ≡ fs ++ spare (mostFiles - length fs)
+    → _≡_ {A = Book} (record { today = today; count = n; waiting = totals; files = places }) (bookOf today fs)
 unfolding bookOf spare
-book-is today n places fs e f = rw (e, f)
+book-is today n totals places fs e w f = λ i. record { today = today; count = e i; waiting = w i; files = f i }
 
 files-of : (today : ℕ) (fs : List File) → bookOf today fs .files ≡ fs ++ spare (mostFiles - length fs)
 unfolding bookOf spare

@@ -1,21 +1,31 @@
 -- The test whether a book is well kept, part by part: what a turn over its files decides, what each part does, and what the two loops of
 -- the test have decided so far. Assumes nothing.
 use Prim.Native.Nat.{ℕ, _+_, _≤_, _<_}
-use mathlib.Core.Path.{_≡_, refl, sym, ap, _∙_}
-use mathlib.Core.List.{List, [], _∷_}
-use mathlib.Core.Bool.{Bool, true, false, _&&_, and-false}
+use mathlib.Core.Path.{_≡_, refl, sym, ap, subst⁻¹, _∙_}
+use mathlib.Core.List.{List, [], _∷_, _++_}
+use mathlib.Core.Bool.{Bool, true, false, _&&_, and-false, false≢true}
+use native.Mathlib.Numerals.{add-one}
 use native.Mathlib.Omega.{arith}
 use lib.Dec.{eqb, leb}
-use lib.ListN.{length, drop, getD}
+use lib.ListN.{length, take, drop, getD, length-take}
+use lib.Seq.{take-suc, take-all, getD-take}
 use borrow.Author.Tests.{eq-eqb, le-leb, lt-leb, lt-ltb, le-ltb}
-use Rattle.lists.specs.Search.{allOf}
+use Rattle.lists.specs.Search.{allOf, Each}
+use Rattle.lists.proofs.SearchLaws.{each-append}
 use Rattle.lists.proofs.Find.{drop-part, part-none, drop-first, drop-none, all-miss, all-next, all-end}
 use Rattle.lists.proofs.TestLaws.{and-left, and-right}
 use Rattle.days.specs.Days.{lastDay, isDay}
 use Rattle.premise.specs.declared.File.{File}
-use Rattle.premise.specs.WellKept.{fileKept, fileBlank}
+use Rattle.premise.specs.Orders.{blankFile}
+use Rattle.premise.specs.WellKept.{fileKept, fileBlank, Tidy, FileKept}
+use Rattle.premise.proofs.KeptFiles.{kept-means}
 use Rattle.book.specs.declared.Book.{Book}
+use Rattle.book.specs.declared.Waiting.{Waiting}
+use Rattle.book.specs.Totals.{waitingIn, sameTotals, moved, Counts}
 use Rattle.book.specs.Book.{mostFiles, filesOf, risesFrom, bookKeptBy, bookKept}
+use Rattle.book.proofs.Kept.{totals-off}
+use Rattle.book.proofs.Totals.{same-totals, totals-same, counts-none, moved-next}
+use Rattle.book_files.proofs.Moves.{none-tidy}
 
 -- ---- the files held: well kept, and their numbers rise from above a number
 abbrev pub heldKept : ℕ → List File → Bool
@@ -35,10 +45,10 @@ pub held-end : (last : ℕ) {left : List File} → left ≡ [] → heldKept last
 held-end last e = rw e
 
 -- ---- the parts
-one-fails : (x kept rising rest : Bool) → (kept && rising) ≡ false → (x && kept && rising && rest) ≡ false
-one-fails true true rising rest h = ap (λ (a : Bool). a && rest) h
-one-fails true false rising rest h = refl
-one-fails false kept rising rest h = refl
+one-fails : (x kept rising : Bool) → (kept && rising) ≡ false → (x && kept && rising) ≡ false
+one-fails true true rising h = h
+one-fails true false rising h = refl
+one-fails false kept rising h = refl
 
 module _ (b : Book) where
   pub no-day : lastDay < b .today → bookKept b ≡ false
@@ -52,30 +62,41 @@ module _ (b : Book) where
   pub held-fails : heldKept 0 (filesOf b) ≡ false → bookKept b ≡ false
   unfolding bookKeptBy
   held-fails h =
-      one-fails (isDay (b .today) && leb (b .count) mostFiles && eqb (length (b .files)) mostFiles) (allOf fileKept (filesOf b))
-      (risesFrom 0 (filesOf b)) (allOf fileBlank (drop (b .count) (b .files))) h
+      ap (λ (a : Bool). a && sameTotals (b .waiting) (waitingIn (filesOf b)) && allOf fileBlank (drop (b .count) (b .files)))
+      (one-fails (isDay (b .today) && leb (b .count) mostFiles && eqb (length (b .files)) mostFiles) (allOf fileKept (filesOf b))
+      (risesFrom 0 (filesOf b)) h)
+
+  -- Document 02, change 11: "A book whose totals are off is not well kept."
+  pub totals-fail : {totals : Waiting} → totals ≡ waitingIn (filesOf b) → sameTotals (b .waiting) totals ≡ false → bookKept b ≡ false
+  totals-fail sum h =
+      totals-off b (λ e. false≢true (sym h ∙ totals-same (b .waiting) _ (e ∙ sym sum)))
 
   -- the places after the files decide where the other parts passed
   pub unused-decide : b .today ≤ lastDay → b .count ≤ mostFiles → length (b .files) ≡ mostFiles → heldKept 0 (filesOf b) ≡ true
-      → bookKept b ≡ allOf fileBlank (drop (b .count) (b .files))
+      → b .waiting ≡ waitingIn (filesOf b) → bookKept b ≡ allOf fileBlank (drop (b .count) (b .files))
   unfolding bookKeptBy
-  unused-decide day few long held =
+  unused-decide day few long held sum =
       rw (
         le-leb (b .today) lastDay day,
         le-leb (b .count) mostFiles few,
         eq-eqb (length (b .files)) mostFiles long,
         and-left (allOf fileKept (filesOf b)) (risesFrom 0 (filesOf b)) held,
         and-right (allOf fileKept (filesOf b)) (risesFrom 0 (filesOf b)) held,
+        totals-same (b .waiting) (waitingIn (filesOf b)) sum,
       )
 
--- ---- the loop over the files held: the test of those left gives what the test of all of them gives
-pub record HeldSofar (b : Book) (n last i : ℕ) : Type 0 where
+-- ---- the loop over the files held: the test of those left gives what the test of all of them gives, and of those passed, which are well
+-- kept, the waiting orders are added up
+pub record HeldSofar (b : Book) (n : ℕ) (none : File) (totals : Waiting) (last i : ℕ) : Type 0 where
   pub within : i ≤ n
   pub same : n ≡ b .count
   pub few : n ≤ mostFiles
   pub day : b .today ≤ lastDay
   pub long : length (b .files) ≡ mostFiles
   pub kept : heldKept last (drop i (filesOf b)) ≡ heldKept 0 (filesOf b)
+  pub blank : none ≡ blankFile
+  pub passed : Each FileKept (take i (filesOf b))
+  pub sum : totals ≡ waitingIn (take i (filesOf b))
 
 -- ---- the loop over the unused places: the test of those left gives what the test of the book gives
 pub record UnusedSofar (b : Book) (i : ℕ) : Type 0 where
@@ -83,7 +104,7 @@ pub record UnusedSofar (b : Book) (i : ℕ) : Type 0 where
   pub long : length (b .files) ≡ mostFiles
   pub decides : allOf fileBlank (drop i (b .files)) ≡ bookKept b
 
-module _ {b : Book} {n last i : ℕ} (v : HeldSofar b n last i) where
+module _ {b : Book} {n : ℕ} {none : File} {totals : Waiting} {last i : ℕ} (v : HeldSofar b n none totals last i) where
   -- a turn: the file at the place, and those after it
   module _ (d : File) (h : i < n) where
     turn : drop i (filesOf b) ≡ getD (b .files) i d ∷ drop (i + 1) (filesOf b)
@@ -95,9 +116,29 @@ module _ {b : Book} {n last i : ℕ} (v : HeldSofar b n last i) where
     pub file-not-kept : fileKept (getD (b .files) i d) ≡ false → false ≡ bookKept b
     file-not-kept q = sym (held-fails b (sym (v .kept) ∙ not-kept last turn q))
 
-    pub file-passes : last < getD (b .files) i d .premise → fileKept (getD (b .files) i d) ≡ true
-        → HeldSofar b n (getD (b .files) i d .premise) (i + 1)
-    file-passes r k =
+    -- with it the first i + 1 files
+    inside : i < length (filesOf b)
+    inside = omega (arith, h, v .same, v .few, v .long, length-take (b .count) (b .files))
+
+    more : take (i + 1) (filesOf b) ≡ take i (filesOf b) ++ (getD (b .files) i d ∷ [])
+    more =
+        ap (λ (m : ℕ). take m (filesOf b)) (add-one i) ∙ take-suc (filesOf b) i d inside
+        ∙ ap (λ (f : File). take i (filesOf b) ++ (f ∷ [])) (getD-take (b .count) (b .files) i d (omega (arith, h, v .same)))
+
+    -- what adding up its orders asks
+    pub file-counts : fileKept (getD (b .files) i d) ≡ true
+        → Tidy none × Tidy (getD (b .files) i d) × Counts totals none
+    file-counts k = (
+      none-tidy (v .blank),
+      kept-means (getD (b .files) i d) .0 k .tidy,
+      subst⁻¹ (λ (f : File). Counts totals f) (v .blank)
+          (subst⁻¹ (λ (w : Waiting). Counts w blankFile) (v .sum)
+          (counts-none (take i (filesOf b)) (omega (arith, length-take i (filesOf b), h, v .few)) (v .passed))),
+    )
+
+    pub file-passes : last < getD (b .files) i d .premise → fileKept (getD (b .files) i d) ≡ true → {next : Waiting}
+        → next ≡ moved totals none (getD (b .files) i d) → HeldSofar b n none next (getD (b .files) i d .premise) (i + 1)
+    file-passes r k added =
         record {
           within = omega arith;
           same = v .same;
@@ -105,18 +146,31 @@ module _ {b : Book} {n last i : ℕ} (v : HeldSofar b n last i) where
           day = v .day;
           long = v .long;
           kept = sym (rising-kept last turn r k) ∙ v .kept;
+          blank = v .blank;
+          passed = subst⁻¹ (Each FileKept) more
+              (each-append FileKept (take i (filesOf b)) (getD (b .files) i d ∷ []) (v .passed) (kept-means (getD (b .files) i d) .0 k, tt));
+          sum = added ∙ (λ j. moved (v .sum j) (v .blank j) (getD (b .files) i d))
+              ∙ moved-next (take i (filesOf b)) (getD (b .files) i d) ∙ ap waitingIn (sym more);
         }
 
-  -- after the last one the unused places decide
-  pub held-done : n ≤ i → UnusedSofar b i
-  held-done h =
+  -- after the last one the totals are those of all files ..
+  all-passed : n ≤ i → totals ≡ waitingIn (filesOf b)
+  all-passed h = v .sum ∙ ap waitingIn (take-all i (filesOf b) (omega (arith, h, v .same, length-take (b .count) (b .files))))
+
+  pub totals-differ : n ≤ i → sameTotals (b .waiting) totals ≡ false → false ≡ bookKept b
+  totals-differ h q = sym (totals-fail b (all-passed h) q)
+
+  -- .. and where the book has these, the unused places decide
+  pub held-done : n ≤ i → sameTotals (b .waiting) totals ≡ true → UnusedSofar b i
+  held-done h q =
       let end : i ≡ b .count = omega (arith, v .within, v .same) in
       let held = sym (v .kept) ∙ held-end last (part-none (b .files) (b .count) i (omega (arith, end))) in
       record {
         within = omega (arith, v .within, v .few);
         long = v .long;
         decides = ap (λ (j : ℕ). allOf fileBlank (drop j (b .files))) end
-            ∙ sym (unused-decide b (v .day) (omega (arith, v .few, v .same)) (v .long) held);
+            ∙ sym (unused-decide b (v .day) (omega (arith, v .few, v .same)) (v .long) held
+            (same-totals (b .waiting) totals q ∙ all-passed h));
       }
 
 module _ {b : Book} {i : ℕ} (v : UnusedSofar b i) where

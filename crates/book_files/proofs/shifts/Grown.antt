@@ -10,10 +10,12 @@ use Rattle.lists.proofs.Over.{over, over-start, over-end, over-at, over-set}
 use Rattle.lists.proofs.Shift.{inserted-length, inserted-take, inserted-at, inserted-next}
 use Rattle.premise.specs.declared.File.{File}
 use Rattle.book.specs.declared.Book.{Book}
+use Rattle.book.specs.declared.Waiting.{Waiting}
+use Rattle.book.specs.Totals.{waitingIn}
 use Rattle.book.specs.Book.{mostFiles, filesOf, bookOf}
 use Rattle.book.specs.Laws.{TidyBook}
 use Rattle.book.proofs.Kept.{count-is}
-use Rattle.book_files.proofs.Tidy.{past, withPlaces, spare, spare-length, spare-drop, book-is, split, length-files}
+use Rattle.book_files.proofs.Tidy.{past, withTotals, withPlaces, spare, spare-length, spare-drop, book-is, split, length-files}
 
 module _ (b : Book) (tidy : TidyBook b) where
   module _ (at : ℕ) (f : File) (h : at ≤ b .count) (room : b .count < mostFiles) where
@@ -80,9 +82,10 @@ module _ (b : Book) (tidy : TidyBook b) where
           ∙ sym (inserted-next past at (filesOf b) (spare (mostFiles - (b .count + 1))) (spare (mostFiles - b .count)) inside f i k
           (omega (arith, count-is b tidy)))
 
-      pub grow-end : i ≡ b .count + 1 → withPlaces c (b .count + 1) (c .files) ≡ bookOf (b .today) (inserted at f (filesOf b))
-      grow-end e =
-          ap (λ (x : Book). withPlaces x (b .count + 1) (x .files)) (s ∙ ap growing e)
-          ∙ ap (withPlaces b (b .count + 1)) (over-end past grown (b .files) (b .count + 1) grown-drop)
-          ∙ book-is (b .today) (b .count + 1) grown (inserted at f (filesOf b)) (sym grown-count)
+      pub grow-end : {totals : Waiting} → totals ≡ waitingIn (inserted at f (filesOf b)) → i ≡ b .count + 1
+          → withTotals c (b .count + 1) totals (c .files) ≡ bookOf (b .today) (inserted at f (filesOf b))
+      grow-end {totals} sum e =
+          ap (λ (x : Book). withTotals x (b .count + 1) totals (x .files)) (s ∙ ap growing e)
+          ∙ ap (withTotals b (b .count + 1) totals) (over-end past grown (b .files) (b .count + 1) grown-drop)
+          ∙ book-is (b .today) (b .count + 1) totals grown (inserted at f (filesOf b)) (sym grown-count) sum
           (ap (λ (n : ℕ). inserted at f (filesOf b) ++ spare (mostFiles - n)) (sym grown-count))

@@ -11,10 +11,12 @@ use Rattle.lists.proofs.Shift.{removed-length, removed-take, removed-next}
 use Rattle.premise.specs.declared.File.{File}
 use Rattle.premise.specs.Orders.{blankFile}
 use Rattle.book.specs.declared.Book.{Book}
+use Rattle.book.specs.declared.Waiting.{Waiting}
+use Rattle.book.specs.Totals.{waitingIn}
 use Rattle.book.specs.Book.{mostFiles, filesOf, bookOf}
 use Rattle.book.specs.Laws.{TidyBook}
 use Rattle.book.proofs.Kept.{count-is}
-use Rattle.book_files.proofs.Tidy.{past, withPlaces, spare, spare-length, spare-drop, spare-at, book-is, split, length-files, unused}
+use Rattle.book_files.proofs.Tidy.{past, withTotals, withPlaces, spare, spare-length, spare-drop, spare-at, book-is, split, length-files, unused}
 
 module _ (b : Book) (tidy : TidyBook b) where
   module _ (at : ℕ) (h : at < b .count) where
@@ -82,11 +84,12 @@ module _ (b : Book) (tidy : TidyBook b) where
           (omega (arith, count-is b tidy))))
 
     -- the last place is blank then
-    pub shrink-end : (c : Book) (i : ℕ) (none : File) → c ≡ shrinking i → i ≡ b .count - 1 → none ≡ blankFile
-        → withPlaces c (b .count - 1) (set (c .files) (b .count - 1) none) ≡ bookOf (b .today) (removed at (filesOf b))
-    shrink-end c i none s e blank =
-        ap (λ (x : Book). withPlaces x (b .count - 1) (x .files))
+    pub shrink-end : (c : Book) (i : ℕ) (none : File) {totals : Waiting} → totals ≡ waitingIn (removed at (filesOf b))
+        → c ≡ shrinking i → i ≡ b .count - 1 → none ≡ blankFile
+        → withTotals c (b .count - 1) totals (set (c .files) (b .count - 1) none) ≡ bookOf (b .today) (removed at (filesOf b))
+    shrink-end c i none {totals} sum s e blank =
+        ap (λ (x : Book). withTotals x (b .count - 1) totals (x .files))
         (store c (b .count - 1) (s ∙ ap shrinking e) none (omega arith) (blank ∙ sym shrunk-last))
-        ∙ ap (withPlaces b (b .count - 1)) (over-end past shrunk (b .files) (b .count - 1 + 1) shrunk-drop)
-        ∙ book-is (b .today) (b .count - 1) shrunk (removed at (filesOf b)) (sym shrunk-count)
+        ∙ ap (withTotals b (b .count - 1) totals) (over-end past shrunk (b .files) (b .count - 1 + 1) shrunk-drop)
+        ∙ book-is (b .today) (b .count - 1) totals shrunk (removed at (filesOf b)) (sym shrunk-count) sum
         (ap (λ (n : ℕ). removed at (filesOf b) ++ spare (mostFiles - n)) (sym shrunk-count))

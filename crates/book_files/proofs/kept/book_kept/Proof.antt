@@ -1,6 +1,6 @@
--- `book_kept` meets its contract. The first loop's invariant: the test of the files left gives what the test of all of them
--- gives; the second's: the test of the places left gives what the test of the book gives. The measures are the places left. Assumes
--- nothing.
+-- `book_kept` meets its contract. The first loop's invariant: the test of the files left gives what the test of all of them gives, and the
+-- waiting orders of those passed are added up; the second's: the test of the places left gives what the test of the book gives. The
+-- measures are the places left. Assumes nothing.
 use Prim.Native.Nat.{_-_}
 use mathlib.Core.Path.{_≡_, refl, sym, _∙_}
 use native.Mathlib.Omega.{arith}
@@ -15,7 +15,9 @@ use Rattle.book_files.proofs.kept.WellKept.{
   HeldSofar,
   file-not-rising,
   file-not-kept,
+  file-counts,
   file-passes,
+  totals-differ,
   held-done,
   UnusedSofar,
   place-not-blank,
@@ -26,10 +28,10 @@ use Rattle.book_files.proofs.kept.book_kept.Statement.{statement}
 use Rattle.book_files.proofs.kept.book_kept.Tie as tie
 
 abbrev Inv-held : tie.InvT-held
-Inv-held b n last₀ i₀ last i = HeldSofar b n last i
+Inv-held b n none totals₀ last₀ i₀ totals last i = HeldSofar b n none totals last i
 
 abbrev μ-held : tie.MeasureT-held
-μ-held b n last₀ i₀ last i = n - i
+μ-held b n none totals₀ last₀ i₀ totals last i = n - i
 
 abbrev Inv-unused : tie.InvT-unused
 Inv-unused b n last i₀ i = UnusedSofar b i
@@ -43,16 +45,26 @@ returns c = sym (no-day (c .before .args .t1) (omega (arith, c .if1 .taken)))
 returns-2 : tie.Need-returns-2 Inv-held μ-held Inv-unused μ-unused
 returns-2 c = sym (too-many (c .before .before .args .t1) (omega (arith, c .if2 .taken)))
 
+blank-file-requires : tie.Need-blank-file-requires Inv-held μ-held Inv-unused μ-unused
+blank-file-requires c κs = search needs
+
+nothing-requires : tie.Need-nothing-requires Inv-held μ-held Inv-unused μ-unused
+nothing-requires c κs = search needs
+
 held-holds : tie.Need-held-holds Inv-held μ-held Inv-unused μ-unused
 held-holds c =
-    let e : length (c .before .before .args .t1 .files) ≡ 64 = search unmapped in
+    let e = c .before .before in
+    let long : length (e .before .before .args .t1 .files) ≡ 64 = search unmapped in
     record {
       within = omega arith;
       same = refl;
-      few = omega (arith, c .if2 .left);
-      day = omega (arith, c .before .if1 .left);
-      long = e;
+      few = omega (arith, e .if2 .left);
+      day = omega (arith, e .before .if1 .left);
+      long = long;
       kept = refl;
+      blank = c .before .blank-file .ensures;
+      passed = tt;
+      sum = c .nothing .ensures;
     }
 
 mul-f : tie.Need-mul-f Inv-held μ-held Inv-unused μ-unused
@@ -73,6 +85,11 @@ returns-4 c =
     let w = c .before .before .before .before .before in
     file-not-kept (w .before .held .inv) _ (w .held-test .taken) (sym (c .before .file-kept .ensures) ∙ not-true _ (c .if4 .taken))
 
+moved-requires : tie.Need-moved-requires Inv-held μ-held Inv-unused μ-unused
+moved-requires c κs =
+    let w = c .before .before .before .before .before in
+    file-counts (w .before .held .inv) past (w .held-test .taken) (sym (c .before .file-kept .ensures) ∙ not-false _ (c .if4 .left))
+
 add-i : tie.Need-add-i Inv-held μ-held Inv-unused μ-unused
 add-i c = omega arith
 
@@ -81,12 +98,23 @@ held-less c = omega arith
 
 held-again : tie.Need-held-again Inv-held μ-held Inv-unused μ-unused
 held-again c =
-    let w = c .before .before .before .before .before in
-    file-passes (w .before .held .inv) past (w .held-test .taken) (omega (arith, c .before .before .if3 .left))
-    (sym (c .before .file-kept .ensures) ∙ not-false _ (c .if4 .left))
+    let e = c .before in
+    let w = e .before .before .before .before .before in
+    file-passes (w .before .held .inv) past (w .held-test .taken) (omega (arith, e .before .before .if3 .left))
+    (sym (e .before .file-kept .ensures) ∙ not-false _ (e .if4 .left)) (c .moved .ensures)
+
+same-requires : tie.Need-same-requires Inv-held μ-held Inv-unused μ-unused
+same-requires c κs = search needs
+
+returns-5 : tie.Need-returns-5 Inv-held μ-held Inv-unused μ-unused
+returns-5 c =
+    let w = c .before .before .before in
+    totals-differ (w .before .held .inv) (w .held-test .left) (sym (c .before .same .ensures) ∙ not-true _ (c .if5 .taken))
 
 unused-holds : tie.Need-unused-holds Inv-held μ-held Inv-unused μ-unused
-unused-holds c = held-done (c .before .held .inv) (c .held-test .left)
+unused-holds c =
+    let w = c .before .before .before in
+    held-done (w .before .held .inv) (w .held-test .left) (sym (c .before .same .ensures) ∙ not-false _ (c .if5 .left))
 
 mul-f-2 : tie.Need-mul-f-2 Inv-held μ-held Inv-unused μ-unused
 mul-f-2 c = omega arith
@@ -97,11 +125,11 @@ element-copy-out-f-2 c = omega arith
 file-blank-requires : tie.Need-file-blank-requires Inv-held μ-held Inv-unused μ-unused
 file-blank-requires c κs = search needs
 
-returns-5 : tie.Need-returns-5 Inv-held μ-held Inv-unused μ-unused
-returns-5 c =
+returns-6 : tie.Need-returns-6 Inv-held μ-held Inv-unused μ-unused
+returns-6 c =
     let w = c .before .before .before in
     place-not-blank (w .before .unused .inv) _ (omega (arith, w .unused-test .taken))
-    (sym (c .before .file-blank .ensures) ∙ not-true _ (c .if5 .taken))
+    (sym (c .before .file-blank .ensures) ∙ not-true _ (c .if6 .taken))
 
 add-i-2 : tie.Need-add-i-2 Inv-held μ-held Inv-unused μ-unused
 add-i-2 c = omega arith
@@ -113,10 +141,10 @@ unused-again : tie.Need-unused-again Inv-held μ-held Inv-unused μ-unused
 unused-again c =
     let w = c .before .before .before in
     place-passes (w .before .unused .inv) _ (omega (arith, w .unused-test .taken))
-    (sym (c .before .file-blank .ensures) ∙ not-false _ (c .if5 .left))
+    (sym (c .before .file-blank .ensures) ∙ not-false _ (c .if6 .left))
 
-returns-6 : tie.Need-returns-6 Inv-held μ-held Inv-unused μ-unused
-returns-6 c = unused-done (c .before .unused .inv) (omega (arith, c .unused-test .left))
+returns-7 : tie.Need-returns-7 Inv-held μ-held Inv-unused μ-unused
+returns-7 c = unused-done (c .before .unused .inv) (omega (arith, c .unused-test .left))
 
 pub book-kept-spec : {M : Type 1} → statement M
 book-kept-spec =
@@ -128,21 +156,26 @@ book-kept-spec =
     μ-unused
     returns
     returns-2
+    blank-file-requires
+    nothing-requires
     held-holds
     mul-f
     element-copy-out-f
     returns-3
     file-kept-requires
     returns-4
+    moved-requires
     add-i
     held-less
     held-again
+    same-requires
+    returns-5
     unused-holds
     mul-f-2
     element-copy-out-f-2
     file-blank-requires
-    returns-5
+    returns-6
     add-i-2
     unused-less
     unused-again
-    returns-6)
+    returns-7)

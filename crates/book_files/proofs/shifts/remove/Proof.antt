@@ -3,43 +3,74 @@
 use Prim.Native.Nat.{ℕ, _≤_, _<_, _-_}
 use mathlib.Core.Path.{_≡_, refl}
 use native.Mathlib.Omega.{arith}
-use borrow.Author.Needs.{needs}
+use Rattle.lists.specs.Shift.{removed}
+use Rattle.premise.specs.declared.File.{File}
+use Rattle.premise.specs.Orders.{blankFile}
 use Rattle.book.specs.declared.Book.{Book}
+use Rattle.book.specs.declared.Waiting.{Waiting}
+use Rattle.book.specs.Totals.{waitingIn}
+use Rattle.book.specs.Book.{filesOf}
 use Rattle.book.specs.Laws.{TidyBook}
+use Rattle.book_files.proofs.Moves.{none-tidy, place-tidy, place-counted, removed-totals}
 use Rattle.book_files.proofs.shifts.Shrunk.{shrinking, shrink-start, shrink-next, shrink-end}
 use Rattle.book_files.proofs.shifts.remove.Statement.{statement}
 use Rattle.book_files.proofs.shifts.remove.Tie as tie
 
-record Turn (at last : ℕ) (b c : Book) (i : ℕ) : Type 0 where
+record Turn (at last : ℕ) (none : File) (totals : Waiting) (b c : Book) (i : ℕ) : Type 0 where
   from : at ≤ i
   upto : i ≤ last
   same : last ≡ b .count - 1
   small : last < 64
   tidy : TidyBook b
+  blank : none ≡ blankFile
+  sum : totals ≡ waitingIn (removed at (filesOf b))
   place : at < b .count
   here : c ≡ shrinking b tidy at place i
 
 abbrev Inv-loop : tie.InvT-loop
-Inv-loop at last c₀ i₀ c i = Turn at last c₀ c i
+Inv-loop at last none totals c₀ i₀ c i = Turn at last none totals c₀ c i
 
 abbrev μ-loop : tie.MeasureT-loop
-μ-loop at last c₀ i₀ c i = last - i
+μ-loop at last none totals c₀ i₀ c i = last - i
 
 sub-last : tie.Need-sub-last Inv-loop μ-loop
 sub-last c = omega arith
 
+blank-file-requires : tie.Need-blank-file-requires Inv-loop μ-loop
+blank-file-requires c κs = tt
+
+mul-f : tie.Need-mul-f Inv-loop μ-loop
+mul-f c = let p = c .before .pre in omega (arith, p .0 .tidy .few, p .1)
+
+element-copy-out-f : tie.Need-element-copy-out-f Inv-loop μ-loop
+element-copy-out-f c = let p = c .before .pre in omega (arith, p .0 .tidy .few, p .1)
+
+moved-requires : tie.Need-moved-requires Inv-loop μ-loop
+moved-requires c κs =
+    let n = c .before .before in
+    let a = n .before .args in
+    let p = n .before .pre in
+    (
+      place-tidy (a .t1) (p .0) (a .at) (p .1),
+      none-tidy (n .blank-file .ensures),
+      place-counted (a .t1) (p .0) (a .at) (p .1),
+    )
+
 loop-holds : tie.Need-loop-holds Inv-loop μ-loop
 loop-holds c =
-    let a = c .before .args in
-    let p = c .before .pre in
+    let n = c .before .before .before in
+    let a = n .before .args in
+    let p = n .before .pre in
     record {
       from = omega arith;
       upto = omega (arith, p .1);
       same = refl;
-      small = omega (arith, p .0 .few, p .1);
-      tidy = p .0;
+      small = omega (arith, p .0 .tidy .few, p .1);
+      tidy = p .0 .tidy;
+      blank = n .blank-file .ensures;
+      sum = removed-totals (a .t1) (p .0) (a .at) (p .1) (n .blank-file .ensures) (c .moved .ensures);
       place = p .1;
-      here = shrink-start (a .b) (p .0) (a .at) (p .1);
+      here = shrink-start (a .t1) (p .0 .tidy) (a .at) (p .1);
     }
 
 add-g : tie.Need-add-g Inv-loop μ-loop
@@ -66,7 +97,7 @@ loop-less c = omega arith
 loop-again : tie.Need-loop-again Inv-loop μ-loop
 loop-again c =
     let l = c .before .before in
-    let a = l .before .before .args in
+    let a = l .before .before .before .before .before .args in
     let t = l .loop .inv in
     record {
       from = omega (arith, t .from);
@@ -74,12 +105,11 @@ loop-again c =
       same = t .same;
       small = t .small;
       tidy = t .tidy;
+      blank = t .blank;
+      sum = t .sum;
       place = t .place;
-      here = shrink-next (a .b) (t .tidy) (a .at) (t .place) (l .loop .c) (l .loop .i) (t .here) (t .from) (omega arith);
+      here = shrink-next (a .t1) (t .tidy) (a .at) (t .place) (l .loop .c) (l .loop .i) (t .here) (t .from) (omega arith);
     }
-
-blank-file-requires : tie.Need-blank-file-requires Inv-loop μ-loop
-blank-file-requires c κs = search needs
 
 mul-none : tie.Need-mul-none Inv-loop μ-loop
 mul-none c = omega arith
@@ -89,11 +119,11 @@ element-set-from-none c = omega arith
 
 returns : tie.Need-returns Inv-loop μ-loop
 returns c =
-    let l = c .before .before in
-    let a = l .before .before .args in
+    let l = c .before in
+    let a = l .before .before .before .before .before .args in
     let t = l .loop .inv in
-    let end : l .loop .i ≡ a .b .count - 1 = omega (arith, t .upto) in
-    shrink-end (a .b) (t .tidy) (a .at) (t .place) (l .loop .c) (l .loop .i) (c .blank-file .result) (t .here) end (c .blank-file .ensures)
+    let end : l .loop .i ≡ a .t1 .count - 1 = omega (arith, t .upto) in
+    shrink-end (a .t1) (t .tidy) (a .at) (t .place) (l .loop .c) (l .loop .i) _ (t .sum) (t .here) end (t .blank)
 
 pub remove-spec : {M : Type 1} → statement M
 remove-spec =
@@ -102,6 +132,10 @@ remove-spec =
     Inv-loop
     μ-loop
     sub-last
+    blank-file-requires
+    mul-f
+    element-copy-out-f
+    moved-requires
     loop-holds
     add-g
     mul-g
@@ -111,7 +145,6 @@ remove-spec =
     add-i
     loop-less
     loop-again
-    blank-file-requires
     mul-none
     element-set-from-none
     returns)

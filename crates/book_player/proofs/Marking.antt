@@ -1,11 +1,12 @@
 -- A day mark on a tidy book, file by file: what it asks, what stands after some files, and at the end. Assumes nothing.
 use Prim.Native.Nat.{ℕ, _*_, _-_, _≤_}
-use mathlib.Core.Path.{_≡_, refl, sym, ap, ap₂, subst, _∙_}
-use mathlib.Core.List.{List, _++_}
+use mathlib.Core.Path.{_≡_, sym, ap, ap₂, subst, _∙_}
+use mathlib.Core.List.{List, _++_, append-nil}
 use native.Mathlib.Omega.{arith}
 use lib.ListN.{take, drop, length, take-append-drop, length-map}
 use lib.Seq.{take-all}
 use Rattle.lists.specs.Search.{Each}
+use Rattle.lists.proofs.Find.{drop-none}
 use Rattle.records.specs.declared.Notice.{Notice}
 use Rattle.records.specs.Layout.{recordLength}
 use Rattle.premise.specs.declared.File.{File}
@@ -14,17 +15,18 @@ use Rattle.premise.specs.WellKept.{FileKept}
 use Rattle.premise.specs.Promises.{Room, Writes}
 use Rattle.premise_laws.proofs.Writes.{writes-none, writes-length, room-first}
 use Rattle.book.specs.declared.Book.{Book}
+use Rattle.book.specs.Totals.{waitingIn}
 use Rattle.book.specs.Book.{mostFiles, filesOf, bookOf}
 use Rattle.book.specs.Calls.{noticeBytes, markedFiles, markedNotices}
 use Rattle.book.specs.Laws.{TidyBook, BookKept}
 use Rattle.book.proofs.Few.{mark-all-few}
-use Rattle.book.proofs.Kept.{count-is}
+use Rattle.book.proofs.Kept.{count-is, totals-are}
 use Rattle.book.proofs.Marks.{mark-tells-in-order}
 use Rattle.book_files.proofs.Tidy.{spare, unused, book-is}
 
 -- a book on another day
 abbrev pub dated : ℕ → Book → Book
-dated day b = record { today = day; count = b .count; files = b .files }
+dated day b = record { today = day; count = b .count; waiting = b .waiting; files = b .files }
 
 dated-tidy : (day : ℕ) (b : Book) → TidyBook b → TidyBook (dated day b)
 unfolding bookOf
@@ -39,12 +41,21 @@ pub mark-asks : (calendar : List ℕ) (b : Book) (day standing : ℕ) (buffer : 
     → noticeBytes ≤ length buffer - recordLength * standing → Asked calendar day b standing buffer
 mark-asks calendar b day standing buffer k room = (k .tidy, k .files, omega (arith, mark-all-few calendar b day k, room))
 
--- a mark after i files, on a book that has the new day: the first i files are done, their notices sent
+-- the files after the first i have been marked
+abbrev pub markedTo : List ℕ → ℕ → ℕ → List File → List File → List File
+markedTo calendar day i fs places = markedFiles calendar day (take i fs) ++ drop i places
+
+-- a mark after i files, on a book that has the new day: the first i files are done, the totals moved with them, their notices sent
 pub record Marking (calendar : List ℕ) (day : ℕ) (b : Book) (standing : ℕ) (buffer : List ℕ) (i sent : ℕ) (c : Book) (after : List ℕ)
     : Type 0 where
   pub asked : Asked calendar day b standing buffer
   pub within : i ≤ b .count
-  pub here : c ≡ record { today = day; count = b .count; files = markedFiles calendar day (take i (filesOf b)) ++ drop i (b .files) }
+  pub here : c ≡ record {
+    today = day;
+    count = b .count;
+    waiting = waitingIn (markedTo calendar day i (filesOf b) (filesOf b));
+    files = markedTo calendar day i (filesOf b) (b .files);
+  }
   pub wrote : Writes standing buffer after sent (markedNotices calendar day (take i (filesOf b)))
 
 pub mark-none : (calendar : List ℕ) (day : ℕ) (b : Book) (standing : ℕ) (buffer : List ℕ) → Asked calendar day b standing buffer
@@ -53,7 +64,7 @@ mark-none calendar day b standing buffer asked =
     record {
       asked = (dated-tidy day b (asked .0), asked .1, asked .2);
       within = omega arith;
-      here = refl;
+      here = λ j. record { today = day; count = b .count; waiting = totals-are b (asked .0) j; files = b .files };
       wrote = writes-none standing buffer;
     }
 
@@ -84,9 +95,13 @@ module _ {calendar : List ℕ} {day : ℕ} {b : Book} {standing : ℕ} {buffer :
         let n : b .count ≡ length (markedFiles calendar day (filesOf b)) =
         sym (length-marked calendar day (filesOf b) ∙ count-is b (m .asked .0)) in
         let all : i ≡ b .count = omega (arith, m .within) in
+        let none-left = drop-none (filesOf b) i (omega (arith, count-is b (m .asked .0), e)) in
         m .here
-        ∙ book-is day (b .count) (markedFiles calendar day (take i (filesOf b)) ++ drop i (b .files)) (markedFiles calendar day (filesOf b))
+        ∙ book-is day (b .count) (waitingIn (markedTo calendar day i (filesOf b) (filesOf b)))
+        (markedTo calendar day i (filesOf b) (b .files)) (markedFiles calendar day (filesOf b))
         n
+        (ap waitingIn
+        (ap₂ (λ (l r : List File). markedFiles calendar day l ++ r) all-files none-left ∙ append-nil (markedFiles calendar day (filesOf b))))
         (ap₂ (λ (l r : List File). markedFiles calendar day l ++ r) all-files
         (ap (λ (k : ℕ). drop k (b .files)) all ∙ unused b (m .asked .0) ∙ ap (λ (k : ℕ). spare (mostFiles - k)) n))
 

@@ -5,7 +5,7 @@ use mathlib.Core.List.{List, []}
 use mathlib.Core.Option.{some}
 use mathlib.Core.Bool.{Bool, true, false, cond}
 use native.Mathlib.Omega.{arith}
-use lib.ListN.{length, getD, length-map}
+use lib.ListN.{length, getD, set, replicate, length-map}
 use lib.Seq.{getD-take}
 use Rattle.lists.specs.Search.{anyOf}
 use Rattle.lists.specs.Shift.{inserted, removed}
@@ -18,7 +18,7 @@ use Rattle.premise.specs.declared.File.{File}
 use Rattle.premise.specs.declared.PremiseAfter.{PremiseAfter}
 use Rattle.premise.specs.declared.Answer.{Answer}
 use Rattle.premise.specs.declared.Answer.the-variants.{Accepted, OrderOpen}
-use Rattle.premise.specs.Orders.{isOpen, held}
+use Rattle.premise.specs.Orders.{isOpen, held, places}
 use Rattle.premise.specs.Steps.{newFile}
 use Rattle.premise.specs.WellKept.{Tidy, FileKept}
 use Rattle.premise.specs.OnePremise.{givenOn}
@@ -27,15 +27,18 @@ use Rattle.premise.proofs.KindsOf.{needs-no-mark}
 use Rattle.premise_laws.proofs.Few.{step-few}
 use Rattle.premise_laws.proofs.Writes.{writes-none}
 use Rattle.book.specs.declared.Book.{Book}
+use Rattle.book.specs.declared.Waiting.{Waiting}
+use Rattle.book.specs.Totals.{moved, Counts}
 use Rattle.book.specs.Book.{mostFiles, filesOf, bookOf, bookKept}
 use Rattle.book.specs.Calls.{noticeBytes, Result, refusal}
 use Rattle.book.specs.CallsInRow.{called}
-use Rattle.book.specs.Laws.{TidyBook, BookKept, withFileAt, numbersOf}
+use Rattle.book.specs.Laws.{BookKept, StoresFile, numbersOf}
 use Rattle.book.proofs.Kept.{count-is, book-kept-means}
 use Rattle.book.proofs.OnHeld.{call-on-held}
 use Rattle.book.proofs.ByReading.{mark-keeps-numbers}
 use Rattle.book.proofs.CallsInRow.{called-room}
-use Rattle.book_files.proofs.Tidy.{past, length-files}
+use Rattle.book_files.proofs.Tidy.{past, withTotals, length-files}
+use Rattle.book_files.proofs.Moves.{place-counted, stored-totals}
 use Rattle.book_player.specs.declared.dispatch.Task.{Task}
 use Rattle.book_player.specs.declared.dispatch.Task.the-variants.{Refused, Opens, Closes, NextDay}
 use Rattle.book_player.specs.declared.dispatch.Task.the-variants as variant
@@ -80,6 +83,11 @@ made-of {standing = standing} {buffer = buffer} {o = o} result e answer book wro
       wrote = subst⁻¹ (λ (x : Result). Writes standing buffer (o .buffer) (o .sent) (x .notices)) e wrote;
       own = own;
     }
+
+-- a new file has no order
+new-tidy : (r : Record) → Tidy (newFile r)
+unfolding places
+new-tidy r = record { few = omega arith; whole = refl }
 
 module _ {b : Book} {numbers : List ℕ} {standing : ℕ} {buffer : List ℕ} (t : Standing b numbers standing buffer) where
   pub well-kept : BookKept b
@@ -127,14 +135,34 @@ module _ {b : Book} {numbers : List ℕ} {standing : ℕ} {buffer : List ℕ} (t
           (says bytes r (found .says) .formed) (needs-no-mark r (found .held .kind .needs)) f in
           (record { tidy = f .tidy; room = omega (arith, few, t .room) }, found .held .kind)
 
-      pub by-file : {calendar : List ℕ} (p : PremiseAfter) {after : List ℕ}
-          → Answered (givenOn calendar (b .today) (some (getD (b .files) at past)) r) standing p buffer after
-          → Made calendar b bytes standing buffer
-          (record { answer = p .answer; sent = p .sent; book = withFileAt b at (p .file); numbers = numbers; buffer = after })
-      by-file {calendar} p gives =
-          let stores = call-on-held calendar b bytes _ r at past (p .file) (t .kept) called-room (found .says) (found .held)
-          (sym (gives .file)) in
-          made-of _ (stores .result) (gives .answer) refl (gives .wrote) (t .own ∙ sym (stores .numbers))
+      module _ (calendar : List ℕ) (p : PremiseAfter) {after : List ℕ}
+          (gives : Answered (givenOn calendar (b .today) (some (getD (b .files) at past)) r) standing p buffer after) where
+        stores : StoresFile calendar b bytes (replicate noticeBytes 0) r at
+            (givenOn calendar (b .today) (some (getD (b .files) at past)) r) (p .file)
+        stores = call-on-held calendar b bytes _ r at past (p .file) (t .kept) called-room (found .says) (found .held) (sym (gives .file))
+
+        -- what it asks to move the totals to the file that is left
+        pub held-moves : Tidy (getD (b .files) at past) × Tidy (p .file) × Counts (b .waiting) (getD (b .files) at past)
+        held-moves = (
+          file-kept at (found .held .within) .tidy,
+          stores .file .kept .tidy,
+          place-counted b well-kept at (found .held .within),
+        )
+
+        pub by-file : {totals : Waiting} → totals ≡ moved (b .waiting) (getD (b .files) at past) (p .file)
+            → Made calendar b bytes standing buffer
+            (record {
+              answer = p .answer;
+              sent = p .sent;
+              book = withTotals b (b .count) totals (set (b .files) at (p .file));
+              numbers = numbers;
+              buffer = after;
+            })
+        by-file sum =
+            made-of _ (stores .result) (gives .answer)
+            (ap (λ (w : Waiting). withTotals b (b .count) w (set (b .files) at (p .file)))
+            (stored-totals b well-kept at (found .held .within) (p .file) sum))
+            (gives .wrote) (t .own ∙ sym (stores .numbers))
 
     -- ---- a mark of the next day
     pub by-marks : {calendar : List ℕ} {day : ℕ} → task ≡ NextDay day → {i sent : ℕ} {c : Book} {after : List ℕ}
@@ -149,8 +177,8 @@ module _ {b : Book} {numbers : List ℕ} {standing : ℕ} {buffer : List ℕ} (t
       opens : KnownOpens bytes b at r
       opens = known (Opens at r) is
 
-      pub open-asks : TidyBook b × (at ≤ b .count) × (b .count < mostFiles)
-      open-asks = (well-kept .tidy, opens .within, opens .free)
+      pub open-asks : {f : File} → f ≡ newFile r → BookKept b × (at ≤ b .count) × (b .count < mostFiles) × Tidy f
+      open-asks new = (well-kept, opens .within, opens .free, subst⁻¹ Tidy new (new-tidy r))
 
       pub by-opening : {calendar : List ℕ} {f : File} {c : Book} {after : List ℕ} → f ≡ newFile r
           → c ≡ bookOf (b .today) (inserted at f (filesOf b)) → after ≡ numbersOf c
@@ -171,8 +199,8 @@ module _ {b : Book} {numbers : List ℕ} {standing : ℕ} {buffer : List ℕ} (t
       pub closed-tidy : Tidy (getD (b .files) at past)
       closed-tidy = file-kept at (closes .within) .tidy
 
-      pub close-asks : TidyBook b × (at < b .count)
-      close-asks = (well-kept .tidy, closes .within)
+      pub close-asks : BookKept b × (at < b .count)
+      close-asks = (well-kept, closes .within)
 
       -- what comes of it, by whether an order is open
       by-open : {one : Bool} → anyOf isOpen (held (getD (b .files) at past)) ≡ one → (calendar : List ℕ)

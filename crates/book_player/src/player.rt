@@ -22,8 +22,8 @@ pub fn record_end(from: usize, length: usize) -> usize
 }
 
 // Plays the records of a stretch of tape, one call each: as many as there are answers to note, and as long as any record's notices surely
-// find room. A refusal leaves the book; a record on a premise that is held stores one file, a mark the files that it changes; only a create
-// and a retire, which are rare, move files.
+// find room. A refusal leaves the book; a record on a premise that is held stores one file, a mark the files that it changes, and the totals
+// of waiting orders move with each of these and for no other; only a create and a retire, which are rare, move files.
 pub fn play(
     calendar: &[u8],
     b: Book,
@@ -65,6 +65,7 @@ pub fn play(
                 let f = c.files[at];
                 let p = premise_steps::on_file(calendar, c.today, f, r, standing, notices);
                 let g = p.file;
+                c.waiting = book_files::moved(c.waiting, f, g);
                 c.files[at] = g;
                 last = p.answer;
                 sent = p.sent;
@@ -84,6 +85,7 @@ pub fn play(
                         let before = c.files[at];
                         let m = premise_steps::mark(calendar, day, end, before, sent, notices);
                         let g = m.file;
+                        c.waiting = book_files::moved(c.waiting, before, g);
                         c.files[at] = g;
                         sent = m.sent;
                     }

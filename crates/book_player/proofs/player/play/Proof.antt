@@ -12,9 +12,10 @@ use Rattle.book.specs.Book.{mostFiles}
 use Rattle.book.specs.Calls.{noticeBytes}
 use Rattle.book_files.proofs.Tidy.{past}
 use Rattle.book_player.proofs.Marking.{Marking, mark-none}
-use Rattle.book_player.proofs.MarkTurns.{mark-place, mark-tidy, mark-width, mark-window, mark-room, mark-more, mark-still}
-use Rattle.book_player.proofs.Ways.{Standing, Made, made-as, each-place, task-asks, by-refusal, held-place, held-asks, by-file}
-use Rattle.book_player.proofs.Ways.{day-asks, by-marks, open-asks, by-opening, close-place, closed-tidy, close-asks}
+use Rattle.book_player.proofs.MarkTurns.{mark-place, mark-tidy, mark-width, mark-window, mark-room, mark-moves, mark-more}
+use Rattle.book_player.proofs.MarkTurns.{mark-still}
+use Rattle.book_player.proofs.Ways.{Standing, Made, made-as, each-place, task-asks, by-refusal, held-place, held-asks, held-moves}
+use Rattle.book_player.proofs.Ways.{by-file, day-asks, by-marks, open-asks, by-opening, close-place, closed-tidy, close-asks}
 use Rattle.book_player.proofs.Ways.{by-open-order, by-closing}
 use Rattle.book_player.proofs.Playing.{Playing, playing-none, answers-length, counts-length, notices-length, sent-within, standing}
 use Rattle.book_player.proofs.Playing.{sent-more, sent-few, playing-more, plays-most, plays-all, plays-room}
@@ -74,6 +75,15 @@ on-file-requires c κs =
     let k = d .before .before in
     held-asks (stands (k .before .before .before .before)) _ (k .task-of .ensures) (d .task2 .given .1) _
 
+moved-requires : tie.Need-moved-requires Inv-loop2 μ-loop2 Inv-loop μ-loop
+moved-requires c κs =
+    let o = c .before .before .before .before in
+    let d = o .before .before .before .before in
+    let k = d .before .before in
+    let e = k .before .before .before .before in
+    held-moves (stands e) _ (k .task-of .ensures) (d .task2 .given .1) (began (e .before .before .before) .args .calendar .now)
+    (o .on-file .result) (o .on-file .ensures)
+
 -- ---- it marks the next day
 loop2-holds : tie.Need-loop2-holds Inv-loop2 μ-loop2 Inv-loop μ-loop
 loop2-holds c =
@@ -104,11 +114,17 @@ mark-requires c κs =
       window = mark-window (j .loop2 .inv) (i .loop2-test .taken) _ (j .before .last-days .ensures);
     }
 
+moved-requires-2 : tie.Need-moved-requires-2 Inv-loop2 μ-loop2 Inv-loop μ-loop
+moved-requires-2 c κs =
+    let x = c .before .before .before .before in
+    let i = x .before .before .before .before .before .before .before in
+    mark-moves (i .before .loop2 .inv) (i .loop2-test .taken) (x .mark .result) (x .mark .ensures)
+
 loop2-again : tie.Need-loop2-again Inv-loop2 μ-loop2 Inv-loop μ-loop
 loop2-again c =
-    let x = c .before .before .before in
+    let x = c .before .before .before .before .before in
     let i = x .before .before .before .before .before .before .before in
-    mark-more (i .before .loop2 .inv) (i .loop2-test .taken) (x .mark .result) (x .mark .ensures)
+    mark-more (i .before .loop2 .inv) (i .loop2-test .taken) (x .mark .result) (x .mark .ensures) (c .moved2 .ensures)
 
 loop2-again-2 : tie.Need-loop2-again-2 Inv-loop2 μ-loop2 Inv-loop μ-loop
 loop2-again-2 c =
@@ -123,8 +139,8 @@ insert-requires : tie.Need-insert-requires Inv-loop2 μ-loop2 Inv-loop μ-loop
 insert-requires c κs =
     let d = c .before .before in
     let k = d .before .before in
-    let h = open-asks (stands (k .before .before .before .before)) _ (k .task-of .ensures) (d .task4 .given .1) in
-    (h .0, omega (arith, h .1), h .2)
+    let h = open-asks (stands (k .before .before .before .before)) _ (k .task-of .ensures) (d .task4 .given .1) (c .new-file .ensures) in
+    (h .0, omega (arith, h .1), h .2, h .3)
 
 close-at : (d : tie.After-task5 Inv-loop2 μ-loop2 Inv-loop μ-loop) → d .task5 .given .0 .0 < mostFiles
 close-at d =
@@ -167,8 +183,8 @@ made c =
     (λ x. made-as (λ i. record { answer = x .7 i; sent = x .6 i; book = x .4 i; numbers = x .5 i; buffer = x .3 i })
     (by-refusal v _ (k .task-of .ensures) (x .1 .given .1)))
     (⊎-elim
-    (λ x. made-as (λ i. record { answer = x .13 i; sent = x .12 i; book = x .10 i; numbers = x .11 i; buffer = x .9 i })
-    (by-file v _ (k .task-of .ensures) (x .1 .given .1) (x .5 .result) (x .5 .ensures)))
+    (λ x. made-as (λ i. record { answer = x .15 i; sent = x .14 i; book = x .12 i; numbers = x .13 i; buffer = x .11 i })
+    (by-file v _ (k .task-of .ensures) (x .1 .given .1) _ (x .5 .result) (x .5 .ensures) (x .10 .ensures)))
     (⊎-elim
     (λ x. made-as (λ i. record { answer = x .11 i; sent = x .10 i; book = x .8 i; numbers = x .9 i; buffer = x .7 i })
     (by-marks v _ (k .task-of .ensures) (x .1 .given .1) (x .5 .inv) (x .6 .left)))
@@ -247,8 +263,9 @@ play-spec =
     (λ c. omega (arith, held-at (c .before)))
     (λ c. omega (arith, held-at (c .before)))
     on-file-requires
-    (λ c. omega (arith, held-at (c .before .before .before .before .before .before .before)))
-    (λ c. omega (arith, held-at (c .before .before .before .before .before .before .before)))
+    moved-requires
+    (λ c. omega (arith, held-at (c .before .before .before .before .before .before .before .before .before)))
+    (λ c. omega (arith, held-at (c .before .before .before .before .before .before .before .before .before)))
     (λ c. c .match .keys3)
     (λ c κs. tt)
     (λ c κs. tt)
@@ -264,9 +281,10 @@ play-spec =
     (λ c. omega (arith, marks-within (c .before .before .before .before)))
     (λ c. omega (arith, marks-within (c .before .before .before .before)))
     mark-requires
-    (λ c. omega (arith, marks-within (c .before .before .before .before .before .before .before .before .before .before)))
-    (λ c. omega (arith, marks-within (c .before .before .before .before .before .before .before .before .before .before)))
-    (λ c. omega (arith, c .before .before .before .before .before .before .before .before .before .before .loop2-test .taken))
+    moved-requires-2
+    (λ c. omega (arith, marks-within (c .before .before .before .before .before .before .before .before .before .before .before .before)))
+    (λ c. omega (arith, marks-within (c .before .before .before .before .before .before .before .before .before .before .before .before)))
+    (λ c. omega (arith, c .before .before .before .before .before .before .before .before .before .before .before .before .loop2-test .taken))
     loop2-again
     (λ c. omega (arith, c .before .before .before .before .loop2-test .taken))
     loop2-again-2

@@ -1,9 +1,10 @@
-// The public calls: a fresh book, and a record on a book.
+// The public calls: a fresh book, a record on a book, and the question how many orders wait.
 ghost use mathlib.Core.Path.{_≡_};
 ghost use Rattle.book.specs.Book.{freshBook};
-ghost use Rattle.book.specs.Promise.{Promised};
+ghost use Rattle.book.specs.Promise.{Promised, Shown};
 use book::Book;
 use book::Reply;
+use book::Waiting;
 use premise::Answer;
 
 // A fresh book. A start day above the last day starts at the last day.
@@ -14,6 +15,14 @@ pub fn fresh(start: u16) -> Book
         return book_files::empty(days::LAST_DAY);
     }
     book_files::empty(start)
+}
+
+// How many orders wait in each open status. Document 02, change 11: "the question returns the stored four, from any book": none is counted
+// and nothing is tested, so that a damaged book's numbers come back as they stand.
+pub fn waiting_orders(b: Book) -> Waiting
+    ensures { λ r. ⌜ Shown b r ⌝ }
+{
+    b.waiting
 }
 
 // A refusal: the book as it was, and no notice.

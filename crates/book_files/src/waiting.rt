@@ -24,7 +24,10 @@ pub fn nothing() -> Waiting
 pub fn same(w: Waiting, v: Waiting) -> bool
     ensures { λ r. ⌜ r ≡ sameTotals w v ⌝ }
 {
-    (w.review == v.review) & (w.permit == v.permit) & (w.scheduled == v.scheduled) & (w.cancel == v.cancel)
+    (w.review == v.review)
+        & (w.permit == v.permit)
+        & (w.scheduled == v.scheduled)
+        & (w.cancel == v.cancel)
 }
 
 // A total after an order has turned from one status into another.

@@ -101,7 +101,8 @@ module _ {calendar : List ℕ} {day : ℕ} {b : Book} {standing : ℕ} {buffer :
         (markedTo calendar day i (filesOf b) (b .files)) (markedFiles calendar day (filesOf b))
         n
         (ap waitingIn
-        (ap₂ (λ (l r : List File). markedFiles calendar day l ++ r) all-files none-left ∙ append-nil (markedFiles calendar day (filesOf b))))
+        (ap₂ (λ (l r : List File). markedFiles calendar day l ++ r) all-files none-left
+        ∙ append-nil (markedFiles calendar day (filesOf b))))
         (ap₂ (λ (l r : List File). markedFiles calendar day l ++ r) all-files
         (ap (λ (k : ℕ). drop k (b .files)) all ∙ unused b (m .asked .0) ∙ ap (λ (k : ℕ). spare (mostFiles - k)) n))
 

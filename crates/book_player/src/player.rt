@@ -22,8 +22,8 @@ pub fn record_end(from: usize, length: usize) -> usize
 }
 
 // Plays the records of a stretch of tape, one call each: as many as there are answers to note, and as long as any record's notices surely
-// find room. A refusal leaves the book; a record on a premise that is held stores one file, a mark the files that it changes, and the totals
-// of waiting orders move with each of these and for no other; only a create and a retire, which are rare, move files.
+// find room. A refusal leaves the book; a record on a premise that is held stores one file, a mark the files that it changes, and the
+// totals of waiting orders move with each of these and for no other; only a create and a retire, which are rare, move files.
 pub fn play(
     calendar: &[u8],
     b: Book,

@@ -65,8 +65,8 @@ unfolding reviewed permitAwaited cancelAwaited ticked contends switchOfDay gives
     permitOvertaken isDue lossNotice evaluation refuses standsInWay notFirstIn markedWith steppedWith stepWith places number premiseRows
     orderRows requestedDay makeRoom ordered taken onScheduled onPermit onUnexecutable onRead supplied onCancel onReply onOrder onDateChange
     onNamed changed agreed orderKeptBy isBlank fileKeptBy fileBlank fieldOf encodeBy wellFormedBy readingBy kindOfDay isBusinessDay
-    switchDate businessDays inWindow waitingIn bookOf bookKeptBy fileFor putIn takenOut callRowsBy callBy lent made plays create7 create5 switch7
-    switch5 scheduled7 scheduled5 mark retire6 oneByte notices7 notices5 tape tape₂ tape₃
+    switchDate businessDays inWindow waitingIn bookOf bookKeptBy fileFor putIn takenOut callRowsBy callBy lent made plays create7 create5
+    switch7 switch5 scheduled7 scheduled5 mark retire6 oneByte notices7 notices5 tape tape₂ tape₃
 computed = record {
   first = record { short = record { real = refl; few = omega arith }; numbers = refl };
   second = record { short = record { real = refl; few = omega arith }; numbers = refl };

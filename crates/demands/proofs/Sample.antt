@@ -39,9 +39,9 @@ unfolding reviewed permitAwaited cancelAwaited ticked contends switchOfDay gives
     permitOvertaken isDue lossNotice evaluation refuses standsInWay notFirstIn markedWith steppedWith stepWith places number premiseRows
     orderRows requestedDay makeRoom ordered taken onScheduled onPermit onUnexecutable onRead supplied onCancel onReply onOrder onDateChange
     onNamed changed agreed orderKeptBy isBlank fileKeptBy fileBlank fieldOf encodeBy wellFormedBy readingBy kindOfDay isBusinessDay
-    switchDate businessDays inWindow waitingIn bookOf bookKeptBy fileFor putIn takenOut callRowsBy callBy lent made plays create7 create5 order7
-    order5 change5 establish7 scheduled7 scheduled5 mark1 malformed calendar tape sample shuffled again ordered7 agreed7 dated7 losing7
-    ordered5 changed5 dated5 losing5 buffers
+    switchDate businessDays inWindow waitingIn bookOf bookKeptBy fileFor putIn takenOut callRowsBy callBy lent made plays create7 create5
+    order7 order5 change5 establish7 scheduled7 scheduled5 mark1 malformed calendar tape sample shuffled again ordered7 agreed7 dated7
+    losing7 ordered5 changed5 dated5 losing5 buffers
 comes = record {
   answers7 = refl;
   answers5 = refl;

@@ -34,8 +34,8 @@ unfolding reviewed permitAwaited cancelAwaited ticked contends switchOfDay gives
     permitOvertaken isDue lossNotice evaluation refuses standsInWay notFirstIn markedWith steppedWith stepWith places number premiseRows
     orderRows requestedDay makeRoom ordered taken onScheduled onPermit onUnexecutable onRead supplied onCancel onReply onOrder onDateChange
     onNamed agreed changed orderKeptBy isBlank fileKeptBy fileBlank fieldOf encodeBy wellFormedBy readingBy kindOfDay isBusinessDay
-    switchDate businessDays inWindow waitingIn bookOf bookKeptBy fileFor putIn takenOut callRowsBy callBy lent oneByte asking create switch scheduled
-    mark shortMark oneAlone withDetail0 withDetail5 outcomes answers told announced dated losing
+    switchDate businessDays inWindow waitingIn bookOf bookKeptBy fileFor putIn takenOut callRowsBy callBy lent oneByte asking create switch
+    scheduled mark shortMark oneAlone withDetail0 withDetail5 outcomes answers told announced dated losing
 comes = record {
   no-detail = (λ e. refl, (λ e. absurd (false≢true e), (λ e. refl, (tt, (tt, (λ e. refl, (λ e. refl, tt)))))));
   answered = refl;

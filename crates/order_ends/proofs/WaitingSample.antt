@@ -38,8 +38,8 @@ unfolding reviewed permitAwaited cancelAwaited ticked contends switchOfDay gives
     permitOvertaken isDue lossNotice evaluation refuses standsInWay notFirstIn markedWith steppedWith stepWith places number premiseRows
     orderRows requestedDay makeRoom ordered taken onScheduled onPermit onUnexecutable onRead supplied onCancel onReply onOrder onDateChange
     onNamed agreed changed orderKeptBy isBlank fileKeptBy fileBlank fieldOf encodeBy wellFormedBy readingBy kindOfDay isBusinessDay
-    switchDate businessDays inWindow waitingIn bookOf bookKeptBy fileFor putIn takenOut callRowsBy callBy orderFor turningDay enough short made
-    plays record24 markOf everyDay arrival hanging arrived hung waiting week twoAWeek longWait
+    switchDate businessDays inWindow waitingIn bookOf bookKeptBy fileFor putIn takenOut callRowsBy callBy orderFor turningDay enough short
+    made plays record24 markOf everyDay arrival hanging arrived hung waiting week twoAWeek longWait
 comes = record {
   f = record {
     turning = refl;

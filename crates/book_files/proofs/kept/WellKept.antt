@@ -148,7 +148,8 @@ module _ {b : Book} {n : ℕ} {none : File} {totals : Waiting} {last i : ℕ} (v
           kept = sym (rising-kept last turn r k) ∙ v .kept;
           blank = v .blank;
           passed = subst⁻¹ (Each FileKept) more
-              (each-append FileKept (take i (filesOf b)) (getD (b .files) i d ∷ []) (v .passed) (kept-means (getD (b .files) i d) .0 k, tt));
+              (each-append FileKept (take i (filesOf b)) (getD (b .files) i d ∷ []) (v .passed)
+              (kept-means (getD (b .files) i d) .0 k, tt));
           sum = added ∙ (λ j. moved (v .sum j) (v .blank j) (getD (b .files) i d))
               ∙ moved-next (take i (filesOf b)) (getD (b .files) i d) ∙ ap waitingIn (sym more);
         }

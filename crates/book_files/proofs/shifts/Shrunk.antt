@@ -16,7 +16,8 @@ use Rattle.book.specs.Totals.{waitingIn}
 use Rattle.book.specs.Book.{mostFiles, filesOf, bookOf}
 use Rattle.book.specs.Laws.{TidyBook}
 use Rattle.book.proofs.Kept.{count-is}
-use Rattle.book_files.proofs.Tidy.{past, withTotals, withPlaces, spare, spare-length, spare-drop, spare-at, book-is, split, length-files, unused}
+use Rattle.book_files.proofs.Tidy.{past, withTotals, withPlaces, spare, spare-length, spare-drop, spare-at, book-is, split}
+use Rattle.book_files.proofs.Tidy.{length-files, unused}
 
 module _ (b : Book) (tidy : TidyBook b) where
   module _ (at : ℕ) (h : at < b .count) where

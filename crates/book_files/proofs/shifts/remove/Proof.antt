@@ -49,8 +49,7 @@ moved-requires : tie.Need-moved-requires Inv-loop μ-loop
 moved-requires c κs =
     let n = c .before .before in
     let a = n .before .args in
-    let p = n .before .pre in
-    (
+    let p = n .before .pre in (
       place-tidy (a .t1) (p .0) (a .at) (p .1),
       none-tidy (n .blank-file .ensures),
       place-counted (a .t1) (p .0) (a .at) (p .1),

@@ -94,6 +94,10 @@ loop2-holds c =
 marks-within : (i : tie.In-loop2 Inv-loop2 μ-loop2 Inv-loop μ-loop) → i .before .loop2 .place < mostFiles
 marks-within i = mark-place (i .before .loop2 .inv) (i .loop2-test .taken)
 
+-- where the file that is left is stored
+abbrev storing : (c : tie.After-moved2 Inv-loop2 μ-loop2 Inv-loop μ-loop) → tie.In-loop2 Inv-loop2 μ-loop2 Inv-loop μ-loop
+storing c = c .before .before .before .before .before .before .before .before .before .before .before .before
+
 -- its window has one of the widths of which the last days are known
 marks-width : (k : tie.After-struct-known Inv-loop2 μ-loop2 Inv-loop μ-loop)
     → (let l = k .before .before .before .loop2 in
@@ -282,9 +286,9 @@ play-spec =
     (λ c. omega (arith, marks-within (c .before .before .before .before)))
     mark-requires
     moved-requires-2
-    (λ c. omega (arith, marks-within (c .before .before .before .before .before .before .before .before .before .before .before .before)))
-    (λ c. omega (arith, marks-within (c .before .before .before .before .before .before .before .before .before .before .before .before)))
-    (λ c. omega (arith, c .before .before .before .before .before .before .before .before .before .before .before .before .loop2-test .taken))
+    (λ c. omega (arith, marks-within (storing c)))
+    (λ c. omega (arith, marks-within (storing c)))
+    (λ c. omega (arith, storing c .loop2-test .taken))
     loop2-again
     (λ c. omega (arith, c .before .before .before .before .loop2-test .taken))
     loop2-again-2

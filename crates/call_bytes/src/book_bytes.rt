@@ -3,6 +3,7 @@
 ghost use Prim.Native.Nat.{_+_, _≤_};
 ghost use lib.ListN.{length};
 use book::Book;
+use book::Waiting;
 use premise::BusinessDays;
 use premise::CalendarDays;
 use premise::File;
@@ -19,8 +20,8 @@ const HEAD_BYTES: usize = 29;
 
 const FILE_BYTES: usize = 229;
 
-// a book: its head of 3 bytes, and 64 files
-pub const BOOK_BYTES: usize = 14_659;
+// a book: its head of 11 bytes, and 64 files
+pub const BOOK_BYTES: usize = 14_667;
 
 // An order, from its 25 bytes.
 fn order_from(bytes: &[u8], at: usize) -> Order
@@ -73,14 +74,27 @@ fn file_from(bytes: &[u8], at: usize) -> File
     file
 }
 
-// A book, from its 14,659 bytes.
+// The four totals, from their 8 bytes.
+fn waiting_from(bytes: &[u8], at: usize) -> Waiting
+    requires { ⌜ at + 8 ≤ length (now bytes) ⌝ }
+{
+    Waiting {
+        review: two(bytes, at),
+        permit: two(bytes, at + 2),
+        scheduled: two(bytes, at + 4),
+        cancel: two(bytes, at + 6),
+    }
+}
+
+// A book, from its 14,667 bytes: T, the number of files, the four totals, the files.
 pub fn book_from(bytes: &[u8]) -> Book
-    requires { ⌜ 14659 ≤ length (now bytes) ⌝ }
+    requires { ⌜ 14667 ≤ length (now bytes) ⌝ }
 {
     let mut b = book_files::empty(two(bytes, 0));
     b.count = wide(bytes[2]) as usize;
+    b.waiting = waiting_from(bytes, 3);
     let mut i: usize = 0;
-    let mut from: usize = 3;
+    let mut from: usize = 11;
     while i < book::MOST_FILES {
         let f = file_from(bytes, from);
         b.files[i] = f;

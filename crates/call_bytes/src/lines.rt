@@ -4,6 +4,7 @@ ghost use lib.ListN.{length};
 ghost use Rattle.records.specs.Layout.{recordLength};
 use crate::pattern::PATTERN;
 use book::Book;
+use book::Waiting;
 use premise::File;
 use premise::Order;
 
@@ -126,9 +127,24 @@ fn say_file(place: usize, f: File) {
     }
 }
 
+// The book's line: T, the number of files, the four totals.
+fn say_head(today: u16, count: usize, w: Waiting) {
+    say(
+        b'b',
+        &[
+            today as u64,
+            count as u64,
+            w.review as u64,
+            w.permit as u64,
+            w.scheduled as u64,
+            w.cancel as u64,
+        ],
+    );
+}
+
 // The book's line, and those of its file places that are in use or not zero.
 pub fn say_book(b: Book) {
-    say(b'b', &[b.today as u64, b.count as u64]);
+    say_head(b.today, b.count, b.waiting);
     let mut i: usize = 0;
     while i < book::MOST_FILES {
         let f = b.files[i];

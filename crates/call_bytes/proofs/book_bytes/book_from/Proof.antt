@@ -8,7 +8,7 @@ use Rattle.call_bytes.proofs.book_bytes.book_from.Statement.{statement}
 use Rattle.call_bytes.proofs.book_bytes.book_from.Tie as tie
 
 abbrev Inv-loop : tie.InvT-loop
-Inv-loop bytes b₀ i₀ from₀ b i from = (i ≤ 64) × (from ≡ 3 + 229 * i) × (14659 ≤ length bytes)
+Inv-loop bytes b₀ i₀ from₀ b i from = (i ≤ 64) × (from ≡ 11 + 229 * i) × (14667 ≤ length bytes)
 
 abbrev μ-loop : tie.MeasureT-loop
 μ-loop bytes b₀ i₀ from₀ b i from = 64 - i
@@ -27,6 +27,9 @@ wide-requires c κs = search needs
 
 cast-b : tie.Need-cast-b Inv-loop μ-loop
 cast-b c = search needs
+
+waiting-from-requires : tie.Need-waiting-from-requires Inv-loop μ-loop
+waiting-from-requires c κs = search needs
 
 loop-holds : tie.Need-loop-holds Inv-loop μ-loop
 loop-holds c = search needs
@@ -66,6 +69,7 @@ book-from-spec =
     shared-slice-read-wide
     wide-requires
     cast-b
+    waiting-from-requires
     loop-holds
     file-from-requires
     mul-f

@@ -10,14 +10,8 @@ Inv-loop b i₀ i = i ≤ 64
 abbrev μ-loop : tie.MeasureT-loop
 μ-loop b i₀ i = 64 - i
 
-cast-t8 : tie.Need-cast-t8 Inv-loop μ-loop
-cast-t8 c = search needs
-
-slice-aggregate-say : tie.Need-slice-aggregate-say Inv-loop μ-loop
-slice-aggregate-say c = search needs
-
-say-requires : tie.Need-say-requires Inv-loop μ-loop
-say-requires c κs = search needs
+say-head-requires : tie.Need-say-head-requires Inv-loop μ-loop
+say-head-requires c κs = search needs
 
 loop-holds : tie.Need-loop-holds Inv-loop μ-loop
 loop-holds c = search needs
@@ -52,9 +46,7 @@ say-book-spec =
     (tie.spec
     Inv-loop
     μ-loop
-    cast-t8
-    slice-aggregate-say
-    say-requires
+    say-head-requires
     loop-holds
     mul-f
     element-copy-out-f

@@ -1,4 +1,3 @@
-pub mod Played
 pub mod RowBytes
 pub mod Lines
 pub mod Output

@@ -7,7 +7,7 @@ use Rattle.book.specs.Book.{freshBook}
 use Rattle.book.specs.CallsInRow.{recordsOf}
 use Rattle.sheet_rules.specs.declared.BlockRow.{BlockRow}
 use Rattle.sheet_rules.specs.Sheet.{number, sheetAnswer, rowsAfter}
-use Rattle.block_sheet.specs.Played.{bookAfter}
+use Rattle.tape_book.specs.Played.{bookAfter}
 use Rattle.block_sheet.specs.RowBytes.{rowLength, rowsOf}
 use Rattle.block_sheet.specs.Lines.{sheetText}
 

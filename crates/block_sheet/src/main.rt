@@ -2,7 +2,6 @@
 // it prints is proved up to the buffer (`sheet_in`); what can't be read or written is told on standard error, and then nothing is printed.
 mod lines;
 mod row_bytes;
-mod tape_book;
 
 ghost use Prim.Native.Nat.{_*_, _≤_};
 ghost use lib.ListN.{length};

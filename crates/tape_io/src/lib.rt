@@ -10,4 +10,5 @@ pub use input::read_up_to;
 pub use playing::CALENDAR_BYTES;
 pub use playing::TAPE_BYTES;
 pub use playing::play;
+pub use program::advise;
 pub use program::run;

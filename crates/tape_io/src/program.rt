@@ -25,18 +25,20 @@ fn begins_as_text(tape: &[u8]) -> bool
     is_character(tape[0]) & is_character(tape[1]) & is_character(tape[2]) & is_character(tape[3])
 }
 
-// Says on standard error what a tape that was played may be lacking: a calendar, or its bytes.
-fn advise(days: usize, tape: &[u8]) {
+// Says on standard error, in a program's name, what a tape that was played may be lacking: a calendar, or its bytes.
+pub fn advise(program: &[u8], days: usize, tape: &[u8]) {
     if days == 0 {
+        io::write_all(libc::STDERR_FILENO, program);
         io::write_all(
             libc::STDERR_FILENO,
-            b"tape: played without business days: calendar.bin in the current folder is missing or empty\n",
+            b": played without business days: calendar.bin in the current folder is missing or empty\n",
         );
     }
     if begins_as_text(tape) {
+        io::write_all(libc::STDERR_FILENO, program);
         io::write_all(
             libc::STDERR_FILENO,
-            b"tape: the tape begins as a text, but records are bytes; make them of it by tapetext encode, or play it by ./play\n",
+            b": the tape begins as a text, but records are bytes; make them of it by tapetext encode, or play it by ./play\n",
         );
     }
 }
@@ -73,5 +75,5 @@ pub fn run(by_calls: bool) {
         );
         return;
     }
-    advise(days_read, &tape[0..bytes_read]);
+    advise(b"tape", days_read, &tape[0..bytes_read]);
 }

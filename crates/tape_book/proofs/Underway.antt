@@ -17,7 +17,7 @@ use Rattle.book.specs.Calls.{noticeBytes, Result}
 use Rattle.book.specs.CallsInRow.{recordsOf, called}
 use Rattle.book.specs.Promise.{Promised}
 use Rattle.book.proofs.CallsInRow.{records-over, records-next, lent-record, called-lent}
-use Rattle.block_sheet.specs.Played.{bookAfter}
+use Rattle.tape_book.specs.Played.{bookAfter}
 
 pub record Underway (calendar tape notices : List ℕ) (b : Book) (from : ℕ) : Type 0 where
   pub within : from ≤ length tape

@@ -5,9 +5,9 @@ use mathlib.Core.Path.{_≡_, refl, _∙_}
 use native.Mathlib.Omega.{arith}
 use lib.ListN.{length}
 use borrow.Author.Needs.{needs}
-use Rattle.block_sheet.proofs.tape_book.Underway.{Underway, begun, played-on, played-all}
-use Rattle.block_sheet.proofs.tape_book.played.Statement.{statement}
-use Rattle.block_sheet.proofs.tape_book.played.Tie as tie
+use Rattle.tape_book.proofs.Underway.{Underway, begun, played-on, played-all}
+use Rattle.tape_book.proofs.played.Statement.{statement}
+use Rattle.tape_book.proofs.played.Tie as tie
 
 abbrev Inv-loop : tie.InvT-loop
 Inv-loop calendar tape notices₀ b₀ from₀ notices b from = Underway calendar tape notices b from × (length notices ≡ length notices₀)

@@ -5,7 +5,7 @@ ghost use lib.ListN.{length};
 ghost use Rattle.book.specs.Book.{freshBook};
 ghost use Rattle.book.specs.Calls.{noticeBytes};
 ghost use Rattle.book.specs.CallsInRow.{recordsOf};
-ghost use Rattle.block_sheet.specs.Played.{bookAfter};
+ghost use Rattle.tape_book.specs.Played.{bookAfter};
 use book::Book;
 
 // Plays a tape over a fresh book at day 0, a record call each; the notices are not looked at.

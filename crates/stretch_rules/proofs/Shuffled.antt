@@ -25,6 +25,7 @@ use Rattle.premise.specs.WellKept.{orderKeptBy, isBlank, fileKeptBy, fileBlank}
 use Rattle.premise.specs.Refusals.{number, premiseRows, orderRows}
 use Rattle.premise.specs.OnePremise.{markedWith, stepWith, steppedWith}
 use Rattle.book.specs.Book.{bookOf, bookKeptBy, fileFor, putIn, takenOut}
+use Rattle.book.specs.Totals.{waitingIn}
 use Rattle.book.specs.Calls.{callRowsBy, callBy}
 use Rattle.book.specs.CallsInRow.{callsInRow}
 use Rattle.book.specs.declared.Book.{Book}
@@ -72,8 +73,8 @@ unfolding reviewed permitAwaited cancelAwaited ticked contends switchOfDay gives
     permitOvertaken isDue lossNotice evaluation refuses standsInWay notFirstIn markedWith steppedWith stepWith places number premiseRows
     orderRows requestedDay makeRoom ordered taken onScheduled onPermit onUnexecutable onRead supplied onCancel onReply onOrder onDateChange
     onNamed changed agreed orderKeptBy isBlank fileKeptBy fileBlank fieldOf wellFormedBy readingBy kindOfDay isBusinessDay switchDate
-    businessDays inWindow bookOf bookKeptBy fileFor putIn takenOut callRowsBy callBy callsInRow create7 create5 order7 order5 scheduled7
-    scheduled5 mark1 calendar wholeRecords stretchCall noticesLent madeStretch
+    businessDays inWindow waitingIn bookOf bookKeptBy fileFor putIn takenOut callRowsBy callBy callsInRow create7 create5 order7 order5
+    scheduled7 scheduled5 mark1 calendar wholeRecords stretchCall noticesLent madeStretch
 plays = record { fed = refl; fed₂ = refl; one = refl; two = refl; bytes = refl; bytes₂ = refl }
 
 -- no number of a list is 6

@@ -7,11 +7,12 @@
 // Its lines: `c` place answer played written; `a` i byte for each record played, i from 0; `n` .. for each notice written; `x` place byte
 // for each notice byte past those written that is no longer 165; `y` place byte for each answer byte past the number played that is no
 // longer 165; then the book's lines.
+ghost use Prim.Native.Nat.{_≤_};
+ghost use lib.ListN.{length};
 use book::Book;
-use call_bytes::NO_LENGTH;
-use call_bytes::complain;
-use call_bytes::take_length;
 use call_bytes::take_part;
+use call_bytes::take_room;
+use stretch_rules::Replies;
 
 // The program's name, for what it says on standard error.
 const NAME: [u8; 11] = *b"block_calls";
@@ -25,14 +26,32 @@ const LONGEST_ANSWERS: usize = 4_096;
 
 const LONGEST_NOTICES: usize = 131_072;
 
-// Makes a call and prints its lines.
-fn make(place: u64, b: Book, calendar: &[u8], tape: &[u8], answers: &mut [u8], notices: &mut [u8]) {
-    call_bytes::fill(answers);
-    call_bytes::fill(notices);
-    let replies = stretch_calls::record_calls(calendar, b, tape, answers, notices);
+// The lines of both buffers: the answers and the notices, and the bytes behind them that were written.
+fn say_buffers(
+    answers: &[u8],
+    played: usize,
+    notices: &[u8],
+    sent: usize,
+    start: usize,
+    text: &mut [u8],
+) -> usize
+    requires { ⌜ start ≤ length (now text) ⌝ }
+    requires { ⌜ 256 ≤ length (now text) ⌝ }
+    ensures { λ r. ⌜ r ≤ length (now (text .exit)) ⌝ }
+{
+    let mut at = call_bytes::say_answers(answers, played, start, text);
+    at = call_bytes::say_notices(notices, sent, at, text);
+    at = call_bytes::say_changed(b'x', notices, sent, records::RECORD_LENGTH, at, text);
+    call_bytes::say_changed(b'y', answers, played, 1, at, text)
+}
+
+// Prints the lines of a call: what it returned, and what stands in the buffers.
+fn print(place: u64, replies: Replies, answers: &[u8], notices: &[u8], text: &mut [u8])
+    requires { ⌜ 256 ≤ length (now text) ⌝ }
+{
     let answer = replies.answer;
     let number = stretch_calls::number_of(answer);
-    call_bytes::say(
+    let mut at = call_bytes::say(
         b'c',
         &[
             place,
@@ -40,26 +59,31 @@ fn make(place: u64, b: Book, calendar: &[u8], tape: &[u8], answers: &mut [u8], n
             replies.played as u64,
             replies.sent as u64,
         ],
+        0,
+        text,
     );
-    call_bytes::say_answers(answers, replies.played);
-    call_bytes::say_notices(notices, replies.sent);
-    call_bytes::say_changed(b'x', notices, replies.sent, records::RECORD_LENGTH);
-    call_bytes::say_changed(b'y', answers, replies.played, 1);
+    at = say_buffers(answers, replies.played, notices, replies.sent, at, text);
     let c = replies.book;
-    call_bytes::say_book(c);
+    at = call_bytes::say_book(c, at, text);
+    call_bytes::write_out(at, text);
 }
 
-// Reads the length of a buffer, if it is one that is taken.
-fn take_room(longest: usize) -> usize {
-    let room = take_length(&NAME);
-    if room == NO_LENGTH {
-        return NO_LENGTH;
-    }
-    if longest < room {
-        complain(&NAME, b"a buffer is longer than what is taken");
-        return NO_LENGTH;
-    }
-    room
+// Makes a call and prints its lines.
+fn make(
+    place: u64,
+    b: Book,
+    calendar: &[u8],
+    tape: &[u8],
+    answers: &mut [u8],
+    notices: &mut [u8],
+    text: &mut [u8],
+)
+    requires { ⌜ 256 ≤ length (now text) ⌝ }
+{
+    call_bytes::fill(answers);
+    call_bytes::fill(notices);
+    let replies = stretch_calls::record_calls(calendar, b, tape, answers, notices);
+    print(place, replies, answers, notices, text);
 }
 
 // Reads the rest of a call on a book, makes it and prints its lines; whether another may follow.
@@ -70,7 +94,10 @@ fn play_on(
     tape: &mut [u8],
     answers: &mut [u8],
     notices: &mut [u8],
-) -> bool {
+    text: &mut [u8],
+) -> bool
+    requires { ⌜ 256 ≤ length (now text) ⌝ }
+{
     let days = take_part(&NAME, calendar);
     if calendar.len() < days {
         return false;
@@ -79,11 +106,11 @@ fn play_on(
     if tape.len() < length {
         return false;
     }
-    let places = take_room(answers.len());
+    let places = take_room(&NAME, answers.len());
     if answers.len() < places {
         return false;
     }
-    let room = take_room(notices.len());
+    let room = take_room(&NAME, notices.len());
     if notices.len() < room {
         return false;
     }
@@ -94,6 +121,7 @@ fn play_on(
         &tape[0..length],
         &mut answers[0..places],
         &mut notices[0..room],
+        text,
     );
     true
 }
@@ -106,13 +134,16 @@ fn play_by(
     tape: &mut [u8],
     answers: &mut [u8],
     notices: &mut [u8],
-) -> bool {
+    text: &mut [u8],
+) -> bool
+    requires { ⌜ 256 ≤ length (now text) ⌝ }
+{
     let taken = call_bytes::take_book(&NAME, book);
     if !taken.came {
         return false;
     }
     let b = taken.book;
-    play_on(place, b, calendar, tape, answers, notices)
+    play_on(place, b, calendar, tape, answers, notices, text)
 }
 
 // Plays one call; whether another may follow.
@@ -122,6 +153,7 @@ fn play_one(place: u64) -> bool {
     let mut tape = [0u8; LONGEST_STRETCH];
     let mut answers = [0u8; LONGEST_ANSWERS];
     let mut notices = [0u8; LONGEST_NOTICES];
+    let mut text = [0u8; call_bytes::TEXT_BYTES];
     play_by(
         place,
         &mut book,
@@ -129,6 +161,7 @@ fn play_one(place: u64) -> bool {
         &mut tape,
         &mut answers,
         &mut notices,
+        &mut text,
     )
 }
 

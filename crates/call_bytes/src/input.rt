@@ -3,7 +3,7 @@ use crate::book_bytes::BOOK_BYTES;
 use book::Book;
 
 // What stands for a length where none came: none of four bytes is so large.
-pub const NO_LENGTH: usize = usize::MAX;
+const NO_LENGTH: usize = usize::MAX;
 
 // A book, if one came.
 pub struct BookTaken {
@@ -12,7 +12,7 @@ pub struct BookTaken {
 }
 
 // Says on standard error what is wrong with the input.
-pub fn complain(program: &[u8], what: &[u8]) {
+fn complain(program: &[u8], what: &[u8]) {
     io::write_all(libc::STDERR_FILENO, program);
     io::write_all(libc::STDERR_FILENO, b": ");
     io::write_all(libc::STDERR_FILENO, what);
@@ -37,7 +37,7 @@ fn take(program: &[u8], n: usize, buffer: &mut [u8]) -> bool {
 }
 
 // Reads a length of four bytes, or none where they did not come.
-pub fn take_length(program: &[u8]) -> usize {
+fn take_length(program: &[u8]) -> usize {
     let mut four = [0u8; 4];
     if !take(program, 4, &mut four) {
         return NO_LENGTH;
@@ -56,6 +56,19 @@ pub fn take_part(program: &[u8], buffer: &mut [u8]) -> usize {
     } else {
         NO_LENGTH
     }
+}
+
+// Reads the length of a buffer, if it is one that is taken; none where it did not come or is longer.
+pub fn take_room(program: &[u8], longest: usize) -> usize {
+    let room = take_length(program);
+    if room == NO_LENGTH {
+        return NO_LENGTH;
+    }
+    if longest < room {
+        complain(program, b"a buffer is longer than what is taken");
+        return NO_LENGTH;
+    }
+    room
 }
 
 // No book came.

@@ -8,15 +8,15 @@ mod pattern;
 
 pub use book_bytes::BOOK_BYTES;
 pub use input::BookTaken;
-pub use input::NO_LENGTH;
-pub use input::complain;
 pub use input::take_book;
-pub use input::take_length;
 pub use input::take_part;
+pub use input::take_room;
+pub use lines::TEXT_BYTES;
 pub use lines::say;
 pub use lines::say_answers;
 pub use lines::say_book;
 pub use lines::say_changed;
 pub use lines::say_notices;
+pub use lines::write_out;
 pub use pattern::PATTERN;
 pub use pattern::fill;

@@ -1,18 +1,24 @@
--- `say_answers` is safe. The loop's invariant: no more answers are said than were asked for. The measure is the answers left. Assumes
--- nothing.
+-- `say_answers` is safe. The loop's invariant: no more answers are said than were asked for, and the lines stand within the text. The
+-- measure is the answers left. Assumes nothing.
 use Prim.Native.Nat.{_-_, _≤_}
+use mathlib.Core.Path.{_≡_}
 use borrow.Author.Needs.{needs}
+use lib.ListN.{length}
 use Rattle.call_bytes.proofs.lines.say_answers.Statement.{statement}
 use Rattle.call_bytes.proofs.lines.say_answers.Tie as tie
 
 abbrev Inv-loop : tie.InvT-loop
-Inv-loop answers n i₀ i = i ≤ n
+Inv-loop answers n at text₀ stop₀ i₀ text stop i =
+    (i ≤ n) × (256 ≤ length text) × (length text ≡ length text₀) × (stop ≤ length text)
 
 abbrev μ-loop : tie.MeasureT-loop
-μ-loop answers n i₀ i = n - i
+μ-loop answers n at text₀ stop₀ i₀ text stop i = n - i
 
 loop-holds : tie.Need-loop-holds Inv-loop μ-loop
 loop-holds c = search needs
+
+same-length : tie.Need-same-length Inv-loop μ-loop
+same-length c = search needs
 
 returns : tie.Need-returns Inv-loop μ-loop
 returns c = search needs
@@ -32,6 +38,9 @@ loop-less c = search needs
 loop-again : tie.Need-loop-again Inv-loop μ-loop
 loop-again c = search needs
 
+same-length-2 : tie.Need-same-length-2 Inv-loop μ-loop
+same-length-2 c = search needs
+
 returns-2 : tie.Need-returns-2 Inv-loop μ-loop
 returns-2 c = search needs
 
@@ -42,10 +51,12 @@ say-answers-spec =
     Inv-loop
     μ-loop
     loop-holds
+    same-length
     returns
     shared-slice-read-say-byte
     say-byte-requires
     add-i
     loop-less
     loop-again
+    same-length-2
     returns-2)

@@ -1,14 +1,18 @@
--- `say_book` is safe. The loop's invariant: the place is at most 64. The measure is the places left. Assumes nothing.
+-- `say_book` is safe. The loop's invariant: the place is at most 64, and the lines stand within the text. The measure is the places left.
+-- Assumes nothing.
 use Prim.Native.Nat.{_-_, _≤_}
+use mathlib.Core.Path.{_≡_}
 use borrow.Author.Needs.{needs}
+use lib.ListN.{length}
 use Rattle.call_bytes.proofs.lines.say_book.Statement.{statement}
 use Rattle.call_bytes.proofs.lines.say_book.Tie as tie
 
 abbrev Inv-loop : tie.InvT-loop
-Inv-loop b i₀ i = i ≤ 64
+Inv-loop at text₀ b stop₀ i₀ text stop i =
+    (i ≤ 64) × (256 ≤ length text) × (length text ≡ length text₀) × (stop ≤ length text)
 
 abbrev μ-loop : tie.MeasureT-loop
-μ-loop b i₀ i = 64 - i
+μ-loop at text₀ b stop₀ i₀ text stop i = 64 - i
 
 say-head-requires : tie.Need-say-head-requires Inv-loop μ-loop
 say-head-requires c κs = search needs
@@ -22,11 +26,8 @@ mul-f c = search needs
 element-copy-out-f : tie.Need-element-copy-out-f Inv-loop μ-loop
 element-copy-out-f c = search needs
 
-file-blank-requires : tie.Need-file-blank-requires Inv-loop μ-loop
-file-blank-requires c κs = search needs
-
-say-file-requires : tie.Need-say-file-requires Inv-loop μ-loop
-say-file-requires c κs = search needs
+say-file-place-requires : tie.Need-say-file-place-requires Inv-loop μ-loop
+say-file-place-requires c κs = search needs
 
 add-i : tie.Need-add-i Inv-loop μ-loop
 add-i c = search needs
@@ -36,6 +37,9 @@ loop-less c = search needs
 
 loop-again : tie.Need-loop-again Inv-loop μ-loop
 loop-again c = search needs
+
+same-length : tie.Need-same-length Inv-loop μ-loop
+same-length c = search needs
 
 returns : tie.Need-returns Inv-loop μ-loop
 returns c = search needs
@@ -50,9 +54,9 @@ say-book-spec =
     loop-holds
     mul-f
     element-copy-out-f
-    file-blank-requires
-    say-file-requires
+    say-file-place-requires
     add-i
     loop-less
     loop-again
+    same-length
     returns)

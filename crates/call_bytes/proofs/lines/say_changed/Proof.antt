@@ -1,31 +1,30 @@
--- `say_changed` is safe. The loop's invariant: the place is within the buffer. The measure is the bytes left. Assumes
--- nothing.
+-- `say_changed` is safe. The loop's invariant: the place is within the buffer, and the lines stand within the text. The measure is the
+-- bytes left. Assumes nothing.
 use Prim.Native.Nat.{_-_, _≤_}
+use mathlib.Core.Path.{_≡_}
 use borrow.Author.Needs.{needs}
 use lib.ListN.{length}
 use Rattle.call_bytes.proofs.lines.say_changed.Statement.{statement}
 use Rattle.call_bytes.proofs.lines.say_changed.Tie as tie
 
 abbrev Inv-loop : tie.InvT-loop
-Inv-loop letter buffer n bytes i₀ i = i ≤ length buffer
+Inv-loop letter buffer n bytes at text₀ stop₀ i₀ text stop i =
+    (i ≤ length buffer) × (256 ≤ length text) × (length text ≡ length text₀) × (stop ≤ length text)
 
 abbrev μ-loop : tie.MeasureT-loop
-μ-loop letter buffer n bytes i₀ i = length buffer - i
+μ-loop letter buffer n bytes at text₀ stop₀ i₀ text stop i = length buffer - i
+
+end-of-parts-requires : tie.Need-end-of-parts-requires Inv-loop μ-loop
+end-of-parts-requires c κs = search needs
 
 loop-holds : tie.Need-loop-holds Inv-loop μ-loop
 loop-holds c = search needs
 
-div-if1 : tie.Need-div-if1 Inv-loop μ-loop
-div-if1 c = search needs
+shared-slice-read-say-if-changed : tie.Need-shared-slice-read-say-if-changed Inv-loop μ-loop
+shared-slice-read-say-if-changed c = search needs
 
-shared-slice-read-if2 : tie.Need-shared-slice-read-if2 Inv-loop μ-loop
-shared-slice-read-if2 c = search needs
-
-shared-slice-read-say-byte : tie.Need-shared-slice-read-say-byte Inv-loop μ-loop
-shared-slice-read-say-byte c = search needs
-
-say-byte-requires : tie.Need-say-byte-requires Inv-loop μ-loop
-say-byte-requires c κs = search needs
+say-if-changed-requires : tie.Need-say-if-changed-requires Inv-loop μ-loop
+say-if-changed-requires c κs = search needs
 
 add-i : tie.Need-add-i Inv-loop μ-loop
 add-i c = search needs
@@ -36,6 +35,9 @@ loop-less c = search needs
 loop-again : tie.Need-loop-again Inv-loop μ-loop
 loop-again c = search needs
 
+same-length : tie.Need-same-length Inv-loop μ-loop
+same-length c = search needs
+
 returns : tie.Need-returns Inv-loop μ-loop
 returns c = search needs
 
@@ -45,12 +47,12 @@ say-changed-spec =
     (tie.spec
     Inv-loop
     μ-loop
+    end-of-parts-requires
     loop-holds
-    div-if1
-    shared-slice-read-if2
-    shared-slice-read-say-byte
-    say-byte-requires
+    shared-slice-read-say-if-changed
+    say-if-changed-requires
     add-i
     loop-less
     loop-again
+    same-length
     returns)

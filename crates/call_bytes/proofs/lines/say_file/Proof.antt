@@ -1,23 +1,27 @@
--- `say_file` is safe. The loop's invariant: the place is at most 8. The measure is the places left. Assumes nothing.
+-- `say_file` is safe. The loop's invariant: the place is at most 8, and the lines stand within the text. The measure is the places left.
+-- Assumes nothing.
 use Prim.Native.Nat.{_-_, _≤_}
+use mathlib.Core.Path.{_≡_}
 use borrow.Author.Needs.{needs}
+use lib.ListN.{length}
 use Rattle.call_bytes.proofs.lines.say_file.Statement.{statement}
 use Rattle.call_bytes.proofs.lines.say_file.Tie as tie
 
 abbrev Inv-loop : tie.InvT-loop
-Inv-loop place f i₀ i = i ≤ 8
+Inv-loop place at text₀ f stop₀ i₀ text stop i =
+    (i ≤ 8) × (256 ≤ length text) × (length text ≡ length text₀) × (stop ≤ length text)
 
 abbrev μ-loop : tie.MeasureT-loop
-μ-loop place f i₀ i = 8 - i
+μ-loop place at text₀ f stop₀ i₀ text stop i = 8 - i
 
-cast-t12 : tie.Need-cast-t12 Inv-loop μ-loop
-cast-t12 c = search needs
+cast-t14 : tie.Need-cast-t14 Inv-loop μ-loop
+cast-t14 c = search needs
 
-cast-t16 : tie.Need-cast-t16 Inv-loop μ-loop
-cast-t16 c = search needs
+cast-t18 : tie.Need-cast-t18 Inv-loop μ-loop
+cast-t18 c = search needs
 
-cast-t19 : tie.Need-cast-t19 Inv-loop μ-loop
-cast-t19 c = search needs
+cast-t21 : tie.Need-cast-t21 Inv-loop μ-loop
+cast-t21 c = search needs
 
 slice-aggregate-say : tie.Need-slice-aggregate-say Inv-loop μ-loop
 slice-aggregate-say c = search needs
@@ -34,11 +38,8 @@ mul-o c = search needs
 element-copy-out-o : tie.Need-element-copy-out-o Inv-loop μ-loop
 element-copy-out-o c = search needs
 
-is-blank-requires : tie.Need-is-blank-requires Inv-loop μ-loop
-is-blank-requires c κs = search needs
-
-say-order-requires : tie.Need-say-order-requires Inv-loop μ-loop
-say-order-requires c κs = search needs
+say-order-place-requires : tie.Need-say-order-place-requires Inv-loop μ-loop
+say-order-place-requires c κs = search needs
 
 add-i : tie.Need-add-i Inv-loop μ-loop
 add-i c = search needs
@@ -49,6 +50,9 @@ loop-less c = search needs
 loop-again : tie.Need-loop-again Inv-loop μ-loop
 loop-again c = search needs
 
+same-length : tie.Need-same-length Inv-loop μ-loop
+same-length c = search needs
+
 returns : tie.Need-returns Inv-loop μ-loop
 returns c = search needs
 
@@ -58,17 +62,17 @@ say-file-spec =
     (tie.spec
     Inv-loop
     μ-loop
-    cast-t12
-    cast-t16
-    cast-t19
+    cast-t14
+    cast-t18
+    cast-t21
     slice-aggregate-say
     say-requires
     loop-holds
     mul-o
     element-copy-out-o
-    is-blank-requires
-    say-order-requires
+    say-order-place-requires
     add-i
     loop-less
     loop-again
+    same-length
     returns)

@@ -1,9 +1,8 @@
 -- What is printed: the rows by value, with spare ones behind them, give the sheet's answer and rows. Assumes nothing.
-use Prim.Native.Nat.{ℕ, _+_, _-_, _≤_}
+use Prim.Native.Nat.{ℕ, _-_}
 use mathlib.Core.Path.{_≡_, ap, ap₂, _∙_}
 use mathlib.Core.List.{List}
-use native.Mathlib.Omega.{arith}
-use lib.ListN.{length, take, drop, length-append}
+use lib.ListN.{length, take}
 use Rattle.tape_text.specs.Numbers.{Puts}
 use Rattle.tape_text.proofs.Puts.{puts-as}
 use Rattle.book.specs.declared.Book.{Book}
@@ -28,8 +27,3 @@ printed b c rows given after answer n count same are fills e l p =
     ∙ ap (λ (x : SheetAnswer). rowsAfter x c (padded rows)) (hidden .answer))
     ∙ hidden .filled in
     puts-as (ap₂ sheetText (e ∙ ap number a) r) p
-
--- a text that was put from the start on ends within the buffer
-pub put-within : {before after text : List ℕ} {stop : ℕ} → Puts 0 before after stop text → stop ≤ length after
-put-within {before} {after} {text} {stop} p =
-    omega (arith, p .end, ap length (p .bytes), length-append text (drop (0 + length text) before))

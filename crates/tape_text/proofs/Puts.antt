@@ -25,6 +25,11 @@ room-as start b e room = rw e room
 pub puts-length : {start stop : ℕ} {b c xs : List ℕ} → Puts start b c stop xs → start + length xs ≤ length b → length c ≡ length b
 puts-length {start} {stop} {b} {c} {xs} p room = ap length (p .bytes) ∙ length-put start xs b room
 
+-- what was put from the start on ends within the buffer
+pub put-within : {before after text : List ℕ} {stop : ℕ} → Puts 0 before after stop text → stop ≤ length after
+put-within {before} {after} {text} {stop} p =
+    omega (arith, p .end, ap length (p .bytes), length-append text (drop (0 + length text) before))
+
 -- a byte put just before a text
 pub puts-before : {at stop : ℕ} {b c xs : List ℕ} (x : ℕ) → Puts (at + 1) b c stop xs → at + 1 + length xs ≤ length b
     → Puts at b (set c at x) stop (x ∷ xs)

@@ -3,7 +3,7 @@ use Prim.Native.Nat.{ℕ, _+_, _≤_}
 use mathlib.Core.Path.{_≡_, ap, _∙_}
 use mathlib.Core.List.{List, [], _∷_}
 use native.Mathlib.Omega.{arith}
-use lib.ListN.{length, drop, length-append}
+use lib.ListN.{length}
 use Rattle.tape_text.specs.Numbers.{Puts}
 use Rattle.tape_text.proofs.Lengths.{any-lettered}
 use Rattle.tape_text.proofs.Puts.{puts-as}
@@ -23,8 +23,3 @@ line-fits w out room = omega (arith, line-most w, room)
 pub shown-put : (b c : Book) (shown : Waiting) {before after : List ℕ} {stop : ℕ} → b ≡ c → Shown b shown
     → Puts 0 before after stop (waitingLine shown) → Puts 0 before after stop (waitingLine (c .waiting))
 shown-put b c shown same asked p = puts-as (ap waitingLine (asked ∙ ap (λ (x : Book). x .waiting) same)) p
-
--- what was put from the start on ends within the buffer
-pub put-within : {before after text : List ℕ} {stop : ℕ} → Puts 0 before after stop text → stop ≤ length after
-put-within {before} {after} {text} {stop} p =
-    omega (arith, p .end, ap length (p .bytes), length-append text (drop (0 + length text) before))

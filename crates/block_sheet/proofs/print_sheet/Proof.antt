@@ -1,6 +1,6 @@
 -- `print_sheet` promises nothing of what is written; that it is safe needs that the text ends within the buffer. Assumes nothing.
 use borrow.Author.Needs.{needs}
-use Rattle.block_sheet.proofs.Printing.{put-within}
+use Rattle.tape_text.proofs.Puts.{put-within}
 use Rattle.block_sheet.proofs.print_sheet.Statement.{statement}
 use Rattle.block_sheet.proofs.print_sheet.Tie as tie
 

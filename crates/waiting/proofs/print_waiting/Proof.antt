@@ -1,6 +1,6 @@
 -- `print_waiting` is safe: the line ends within its buffer. Assumes nothing.
 use borrow.Author.Needs.{needs}
-use Rattle.waiting.proofs.Line.{put-within}
+use Rattle.tape_text.proofs.Puts.{put-within}
 use Rattle.waiting.proofs.print_waiting.Statement.{statement}
 use Rattle.waiting.proofs.print_waiting.Tie as tie
 

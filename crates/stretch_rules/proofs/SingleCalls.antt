@@ -200,16 +200,16 @@ pub single-calls-can-be-made : SingleCallsCanBeMade
 single-calls-can-be-made calendar b tape r answers₀ answers₁ notices₀ notices₁ p =
     let t = told calendar b tape (length answers₀) notices₀ in
     let s = t .says in
-    (t .ms, record { calls = s .calls; fed = s .fed; lent = s .handed; many = s .many ∙ sym (p .played) })
+    (t .ms, record { made = record { calls = s .calls; fed = s .fed; lent = s .handed }; many = s .many ∙ sym (p .played) })
 
 pub stretch-is-single-calls : StretchIsSingleCalls
 stretch-is-single-calls calendar b tape r answers₀ answers₁ notices₀ notices₁ ms p single =
     let x = stretchCall calendar b tape (length answers₀) (length notices₀) in
     let t = told calendar b tape (length answers₀) notices₀ in
     let same : t .ms ≡ ms =
-    same-calls calendar b notices₀ (t .ms) ms (t .says .calls) (t .says .handed) (single .calls) (single .lent)
+    same-calls calendar b notices₀ (t .ms) ms (t .says .calls) (t .says .handed) (single .made .calls) (single .made .lent)
     (t .says .fed
-    ∙ ap (λ (n : ℕ). take n (wholeRecords tape)) (t .says .many ∙ sym (p .played) ∙ sym (single .many)) ∙ sym (single .fed)) in
+    ∙ ap (λ (n : ℕ). take n (wholeRecords tape)) (t .says .many ∙ sym (p .played) ∙ sym (single .many)) ∙ sym (single .made .fed)) in
     let s : Says calendar b notices₀ (wholeRecords tape) (x .course) ms =
     subst (Says calendar b notices₀ (wholeRecords tape) (x .course)) same (t .says) in
     record {
@@ -259,14 +259,14 @@ as-many-as-find-room calendar b tape r answers₀ answers₁ notices₀ notices�
     let ns = can .0 in
     let s = can .1 in
     let is = stretch-is-single-calls calendar b tape r answers₀ answers₁ notices₀ notices₁ ns p s in
-    let fits : length ns ≤ length records = omega (arith, ap length (s .fed), length-take (length ns) records, made-many ns) in
+    let fits : length ns ≤ length records = omega (arith, ap length (s .made .fed), length-take (length ns) records, made-many ns) in
     let ends : (length ns ≡ length records) ⊎ (length (stillFree notices₀ ns) < noticeBytes) =
     go (ltb (length ns) (length records)) refl fits (is .stops taken) in
     omega (
       arith,
       s .many,
-      no-fewer calendar b notices₀ records ms ns (far .calls) (far .lent) (far .fed) (s .calls) (s .lent) (s .fed) (far .ends),
-      no-fewer calendar b notices₀ records ns ms (s .calls) (s .lent) (s .fed) (far .calls) (far .lent) (far .fed) ends,
+      no-fewer calendar b notices₀ records ms ns (far .made .calls) (far .made .lent) (far .made .fed) (s .made .calls) (s .made .lent) (s .made .fed) (far .ends),
+      no-fewer calendar b notices₀ records ns ms (s .made .calls) (s .made .lent) (s .made .fed) (far .made .calls) (far .made .lent) (far .made .fed) ends,
     )
   where
     made-many : (ms : List Made) → length (tapeOf ms) ≡ length ms

@@ -84,16 +84,16 @@ calls-of calendar b (s ∷ ss) p =
     (length-map ms (λ (m : Made). number (m .reply .answer)) ∙ one .many)) in (
       ms ++ ns,
       record {
-        played = played-both calendar b ms ns (one .calls) (subst (λ (x : Book). Played calendar x ns) (is .book) (others .played));
-        room = each-both (λ (m : Made). noticeBytes ≤ length (m .lent)) ms ns (rooms (s .noticesLent) ms (one .lent)) (others .room);
+        played = played-both calendar b ms ns (one .made .calls) (subst (λ (x : Book). Played calendar x ns) (is .book) (others .played));
+        room = each-both (λ (m : Made). noticeBytes ≤ length (m .lent)) ms ns (rooms (s .noticesLent) ms (one .made .lent)) (others .room);
         fed = map-append (λ (m : Made). m .bytes) ms ns
             ∙ ap₂ (λ (l r : List (List ℕ)). l ++ r)
-            (one .fed ∙ ap (λ (n : ℕ). take n (wholeRecords (s .tape))) (one .many)) (others .fed);
+            (one .made .fed ∙ ap (λ (n : ℕ). take n (wholeRecords (s .tape))) (one .many)) (others .fed);
         numbers = map-append (λ (m : Made). number (m .reply .answer)) ms ns
             ∙ ap₂ (λ (l r : List ℕ). l ++ r) numbered (others .numbers);
         notices = rows-both ms ns
             ∙ ap₂ (λ (l r : List (List ℕ)). l ++ r)
-            (notice-rows calendar b (s .noticesLent) ms (one .calls) (one .lent)
+            (notice-rows calendar b (s .noticesLent) ms (one .made .calls) (one .made .lent)
             ∙ sym (λ i. rows (is .sent i) (is .notices i)))
             (others .notices);
         book = others .book ∙ ap (λ (x : Book). lastBook x ns) (is .book) ∙ sym (last-both b ms ns);

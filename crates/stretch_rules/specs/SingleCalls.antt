@@ -37,12 +37,16 @@ abbrev pub piecesLeft : List ℕ → List Made → List ℕ
 piecesLeft free [] = free
 piecesLeft free (m ∷ ms) = take (recordLength * m .reply .sent) (m .after) ++ piecesLeft (behindOwn m) ms
 
--- ---- the single calls of a stretch, as many as were played: each keeps the record call's promise and gets the book that the one before it
--- returned, from the stretch's own; their records are the first of its whole records
-pub record SingleCalls (calendar : List ℕ) (b : Book) (tape notices₀ : List ℕ) (played : ℕ) (ms : List Made) : Type 0 where
+-- ---- single calls of a stretch: each keeps the record call's promise and gets the book that the one before it returned, from the
+-- stretch's own; their records are the first of its whole records
+pub record MadeOf (calendar : List ℕ) (b : Book) (tape notices₀ : List ℕ) (ms : List Made) : Type 0 where
   pub calls : Played calendar b ms
   pub fed : tapeOf ms ≡ take (length ms) (wholeRecords tape)
   pub lent : EachLentRest notices₀ ms
+
+-- as many as were played
+pub record SingleCalls (calendar : List ℕ) (b : Book) (tape notices₀ : List ℕ) (played : ℕ) (ms : List Made) : Type 0 where
+  pub made : MadeOf calendar b tape notices₀ ms
   pub many : length ms ≡ played
 
 -- What the call of many records gave is what they gave: the last one's book; how many notices; their numbers as answer bytes, and the
@@ -73,9 +77,7 @@ SingleCallsCanBeMade =
 -- How many are played: single calls that were made as far as they go, to the last whole record or until the next would find fewer than
 -- 24,576 bytes, are as many as were played, if the answer is 0.
 pub record AsFarAsTheyGo (calendar : List ℕ) (b : Book) (tape notices₀ : List ℕ) (ms : List Made) : Type 0 where
-  pub calls : Played calendar b ms
-  pub fed : tapeOf ms ≡ take (length ms) (wholeRecords tape)
-  pub lent : EachLentRest notices₀ ms
+  pub made : MadeOf calendar b tape notices₀ ms
   pub ends : (length ms ≡ length (wholeRecords tape)) ⊎ (length (stillFree notices₀ ms) < noticeBytes)
 
 abbrev pub AsManyAsFindRoom : Type 0

@@ -2,9 +2,10 @@
 ghost use mathlib.Core.Path.{_≡_};
 ghost use Rattle.book.specs.Book.{bookKept};
 use book::Book;
+use book::Waiting;
 
 // Whether a book is well kept. Every book is answered, whatever its fields hold. (Two loops in one function: a call would copy the book.)
-// The waiting orders are added up file by file, once a file is known to be well kept: before that, its count may be past its places.
+// The waiting orders are added up file by file: the test of each counts them on its way.
 pub fn book_kept(b: Book) -> bool
     ensures { λ r. ⌜ r ≡ bookKept b ⌝ }
 {
@@ -15,8 +16,10 @@ pub fn book_kept(b: Book) -> bool
     if book::MOST_FILES < n {
         return false;
     }
-    let none = premise_file::blank_file();
-    let mut totals = crate::waiting::nothing();
+    let mut review: u16 = 0;
+    let mut permit: u16 = 0;
+    let mut scheduled: u16 = 0;
+    let mut cancel: u16 = 0;
     let mut last: u64 = 0;
     let mut i: usize = 0;
     'held: while i < n {
@@ -24,13 +27,23 @@ pub fn book_kept(b: Book) -> bool
         if f.premise <= last {
             return false;
         }
-        if !premise_kept::file_kept(f) {
+        let test = premise_kept::file_kept(f);
+        if !test.kept {
             return false;
         }
-        totals = crate::waiting::moved(totals, none, f);
+        review += test.review;
+        permit += test.permit;
+        scheduled += test.scheduled;
+        cancel += test.cancel;
         last = f.premise;
         i += 1;
     }
+    let totals = Waiting {
+        review: review,
+        permit: permit,
+        scheduled: scheduled,
+        cancel: cancel,
+    };
     if !crate::waiting::same(b.waiting, totals) {
         return false;
     }

@@ -1,12 +1,35 @@
 // Whether a file is well kept; it leaves at the first part that fails.
 ghost use mathlib.Core.Path.{_≡_};
-ghost use Rattle.premise.specs.WellKept.{fileKept};
+ghost use Rattle.premise_kept.specs.Test.{refused, fileTest};
 use premise::File;
 
-// Whether a file is well kept. Each order held is tested by itself and its reference held against those of the later ones; the places after
-// them are unused. (The loops stand in one function: a function that takes the file and reads its places makes a copy of it.)
-pub fn file_kept(file: File) -> bool
-    ensures { λ r. ⌜ r ≡ fileKept file ⌝ }
+// Whether a file is well kept, and if so how many of its orders are In Review, Permit Pending, Scheduled and Cancel Pending.
+pub struct FileTest {
+    pub kept: bool,
+    pub review: u16,
+    pub permit: u16,
+    pub scheduled: u16,
+    pub cancel: u16,
+}
+
+// Of a file that is not well kept nothing is counted.
+fn refused() -> FileTest
+    ensures { λ r. ⌜ r ≡ refused ⌝ }
+{
+    FileTest {
+        kept: false,
+        review: 0,
+        permit: 0,
+        scheduled: 0,
+        cancel: 0,
+    }
+}
+
+// Whether a file is well kept. One walk over its orders tests each by itself and counts it under its status. References that rise on the
+// way are distinct; only where they do not is each held against the later ones. The places after the orders are unused. (The loops stand in
+// one function, and the counts come with the answer: a function that takes the file and reads its places makes a copy of it.)
+pub fn file_kept(file: File) -> FileTest
+    ensures { λ r. ⌜ r ≡ fileTest file ⌝ }
 {
     if !((file.premise != 0)
         & (file.retailer <= records::LAST_RETAILER)
@@ -15,31 +38,54 @@ pub fn file_kept(file: File) -> bool
         & (file.agreement <= records::LAST_RETAILER)
         & (file.entered <= 1)
         & (file.count <= premise::MOST_ORDERS)) {
-        return false;
+        return refused();
     }
     let n = file.count;
+    let mut review: u16 = 0;
+    let mut permit: u16 = 0;
+    let mut scheduled: u16 = 0;
+    let mut cancel: u16 = 0;
+    // no reference is 0, so that the first one rises
+    let mut last: u32 = 0;
+    let mut rising = true;
     let mut i: usize = 0;
     'held: while i < n {
         let o = file.orders[i];
         if !crate::order::order_kept(o) {
-            return false;
+            return refused();
         }
+        review += (o.status == premise::IN_REVIEW) as u16;
+        permit += (o.status == premise::PERMIT_PENDING) as u16;
+        scheduled += (o.status == premise::SCHEDULED) as u16;
+        cancel += (o.status == premise::CANCEL_PENDING) as u16;
+        rising = rising & (last < o.reference);
+        last = o.reference;
         i += 1;
-        let mut j = i;
-        'later: while j < n {
-            let other = file.orders[j];
-            if other.reference == o.reference {
-                return false;
+    }
+    let mut first: usize = 0;
+    'pairs: while !rising & (first < n) {
+        let reference = file.orders[first].reference;
+        first += 1;
+        let mut later = first;
+        'later: while later < n {
+            if file.orders[later].reference == reference {
+                return refused();
             }
-            j += 1;
+            later += 1;
         }
     }
     'unused: while i < premise::MOST_ORDERS {
         let o = file.orders[i];
         if !crate::unused::is_blank(o) {
-            return false;
+            return refused();
         }
         i += 1;
     }
-    true
+    FileTest {
+        kept: true,
+        review: review,
+        permit: permit,
+        scheduled: scheduled,
+        cancel: cancel,
+    }
 }

@@ -4,6 +4,7 @@ mod file;
 mod order;
 mod unused;
 
+pub use file::FileTest;
 pub use file::file_kept;
 pub use unused::file_blank;
 pub use unused::is_blank;

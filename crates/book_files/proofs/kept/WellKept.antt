@@ -1,15 +1,15 @@
 -- The test whether a book is well kept, part by part: what a turn over its files decides, what each part does, and what the two loops of
 -- the test have decided so far. Assumes nothing.
-use Prim.Native.Nat.{ℕ, _+_, _≤_, _<_}
+use Prim.Native.Nat.{ℕ, _+_, _-_, _≤_, _<_}
 use mathlib.Core.Path.{_≡_, refl, sym, ap, subst⁻¹, _∙_}
 use mathlib.Core.List.{List, [], _∷_, _++_}
-use mathlib.Core.Bool.{Bool, true, false, _&&_, and-false, false≢true}
+use mathlib.Core.Bool.{Bool, true, false, not, cond, _&&_, and-false, false≢true}
 use native.Mathlib.Numerals.{add-one}
 use native.Mathlib.Omega.{arith}
 use lib.Dec.{eqb, leb}
 use lib.ListN.{length, take, drop, getD, length-take}
 use lib.Seq.{take-suc, take-all, getD-take}
-use borrow.Author.Tests.{eq-eqb, le-leb, lt-leb, lt-ltb, le-ltb}
+use borrow.Author.Tests.{eq-eqb, le-leb, lt-leb, lt-ltb, le-ltb, not-true, not-false}
 use Rattle.lists.specs.Search.{allOf, Each}
 use Rattle.lists.proofs.SearchLaws.{each-append}
 use Rattle.lists.proofs.Find.{drop-part, part-none, drop-first, drop-none, all-miss, all-next, all-end}
@@ -17,15 +17,16 @@ use Rattle.lists.proofs.TestLaws.{and-left, and-right}
 use Rattle.days.specs.Days.{lastDay, isDay}
 use Rattle.premise.specs.declared.File.{File}
 use Rattle.premise.specs.Orders.{blankFile}
-use Rattle.premise.specs.WellKept.{fileKept, fileBlank, Tidy, FileKept}
+use Rattle.premise.specs.WellKept.{fileKept, fileBlank, FileKept}
 use Rattle.premise.proofs.KeptFiles.{kept-means}
+use Rattle.premise_kept.specs.declared.file.FileTest.{FileTest}
+use Rattle.premise_kept.specs.Test.{passed, refused, fileTest}
 use Rattle.book.specs.declared.Book.{Book}
 use Rattle.book.specs.declared.Waiting.{Waiting}
 use Rattle.book.specs.Totals.{waitingIn, sameTotals, moved, Counts}
 use Rattle.book.specs.Book.{mostFiles, filesOf, risesFrom, bookKeptBy, bookKept}
 use Rattle.book.proofs.Kept.{totals-off}
 use Rattle.book.proofs.Totals.{same-totals, totals-same, counts-none, moved-next}
-use Rattle.book_files.proofs.Moves.{none-tidy}
 
 -- ---- the files held: well kept, and their numbers rise from above a number
 abbrev pub heldKept : ℕ → List File → Bool
@@ -85,16 +86,48 @@ module _ (b : Book) where
         totals-same (b .waiting) (waitingIn (filesOf b)) sum,
       )
 
+-- ---- the test of a file: whether it is well kept, and its orders added to the totals
+abbrev pub with : Waiting → FileTest → Waiting
+with w t =
+    record {
+      review = w .review + t .review;
+      permit = w .permit + t .permit;
+      scheduled = w .scheduled + t .scheduled;
+      cancel = w .cancel + t .cancel;
+    }
+
+module _ (f : File) {t : FileTest} (e : t ≡ fileTest f) where
+  pub test-says : t .kept ≡ fileKept f
+  unfolding fileTest passed refused
+  test-says = ap (λ (x : FileTest). x .kept) e ∙ go (fileKept f)
+    where
+      go : (b : Bool) → cond b (passed f) refused .kept ≡ b
+      go true = refl
+      go false = refl
+
+  test-counts : (w : Waiting) → fileKept f ≡ true → with w t ≡ moved w blankFile f
+  unfolding fileTest passed moved
+  test-counts w k =
+      let p : t ≡ passed f = e ∙ ap (λ (b : Bool). cond b (passed f) refused) k in
+      λ i. record {
+        review = one (w .review) (ap (λ (x : FileTest). x .review) p) i;
+        permit = one (w .permit) (ap (λ (x : FileTest). x .permit) p) i;
+        scheduled = one (w .scheduled) (ap (λ (x : FileTest). x .scheduled) p) i;
+        cancel = one (w .cancel) (ap (λ (x : FileTest). x .cancel) p) i;
+      }
+    where
+      one : (total : ℕ) {count held : ℕ} → count ≡ held → total + count ≡ total + held - 0
+      one total h = omega (arith, h)
+
 -- ---- the loop over the files held: the test of those left gives what the test of all of them gives, and of those passed, which are well
 -- kept, the waiting orders are added up
-pub record HeldSofar (b : Book) (n : ℕ) (none : File) (totals : Waiting) (last i : ℕ) : Type 0 where
+pub record HeldSofar (b : Book) (n : ℕ) (totals : Waiting) (last i : ℕ) : Type 0 where
   pub within : i ≤ n
   pub same : n ≡ b .count
   pub few : n ≤ mostFiles
   pub day : b .today ≤ lastDay
   pub long : length (b .files) ≡ mostFiles
   pub kept : heldKept last (drop i (filesOf b)) ≡ heldKept 0 (filesOf b)
-  pub blank : none ≡ blankFile
   pub passed : Each FileKept (take i (filesOf b))
   pub sum : totals ≡ waitingIn (take i (filesOf b))
 
@@ -104,7 +137,13 @@ pub record UnusedSofar (b : Book) (i : ℕ) : Type 0 where
   pub long : length (b .files) ≡ mostFiles
   pub decides : allOf fileBlank (drop i (b .files)) ≡ bookKept b
 
-module _ {b : Book} {n : ℕ} {none : File} {totals : Waiting} {last i : ℕ} (v : HeldSofar b n none totals last i) where
+module _ {b : Book} {n : ℕ} {totals : Waiting} {last i : ℕ} (v : HeldSofar b n totals last i) where
+  -- the totals are within a book's orders
+  pub few-waiting : Counts totals blankFile
+  few-waiting =
+      subst⁻¹ (λ (w : Waiting). Counts w blankFile) (v .sum)
+      (counts-none (take i (filesOf b)) (omega (arith, length-take i (filesOf b), v .within, v .few)) (v .passed))
+
   -- a turn: the file at the place, and those after it
   module _ (d : File) (h : i < n) where
     turn : drop i (filesOf b) ≡ getD (b .files) i d ∷ drop (i + 1) (filesOf b)
@@ -112,9 +151,6 @@ module _ {b : Book} {n : ℕ} {none : File} {totals : Waiting} {last i : ℕ} (v
 
     pub file-not-rising : getD (b .files) i d .premise ≤ last → false ≡ bookKept b
     file-not-rising q = sym (held-fails b (sym (v .kept) ∙ not-rising last turn q))
-
-    pub file-not-kept : fileKept (getD (b .files) i d) ≡ false → false ≡ bookKept b
-    file-not-kept q = sym (held-fails b (sym (v .kept) ∙ not-kept last turn q))
 
     -- with it the first i + 1 files
     inside : i < length (filesOf b)
@@ -125,34 +161,28 @@ module _ {b : Book} {n : ℕ} {none : File} {totals : Waiting} {last i : ℕ} (v
         ap (λ (m : ℕ). take m (filesOf b)) (add-one i) ∙ take-suc (filesOf b) i d inside
         ∙ ap (λ (f : File). take i (filesOf b) ++ (f ∷ [])) (getD-take (b .count) (b .files) i d (omega (arith, h, v .same)))
 
-    -- what adding up its orders asks
-    pub file-counts : fileKept (getD (b .files) i d) ≡ true
-        → Tidy none × Tidy (getD (b .files) i d) × Counts totals none
-    file-counts k = (
-      none-tidy (v .blank),
-      kept-means (getD (b .files) i d) .0 k .tidy,
-      subst⁻¹ (λ (f : File). Counts totals f) (v .blank)
-          (subst⁻¹ (λ (w : Waiting). Counts w blankFile) (v .sum)
-          (counts-none (take i (filesOf b)) (omega (arith, length-take i (filesOf b), h, v .few)) (v .passed))),
-    )
+    module _ {t : FileTest} (e : t ≡ fileTest (getD (b .files) i d)) where
+      pub file-not-kept : not (t .kept) ≡ true → false ≡ bookKept b
+      file-not-kept q =
+          sym (held-fails b (sym (v .kept) ∙ not-kept last turn (sym (test-says (getD (b .files) i d) e) ∙ not-true (t .kept) q)))
 
-    pub file-passes : last < getD (b .files) i d .premise → fileKept (getD (b .files) i d) ≡ true → {next : Waiting}
-        → next ≡ moved totals none (getD (b .files) i d) → HeldSofar b n none next (getD (b .files) i d .premise) (i + 1)
-    file-passes r k added =
-        record {
-          within = omega arith;
-          same = v .same;
-          few = v .few;
-          day = v .day;
-          long = v .long;
-          kept = sym (rising-kept last turn r k) ∙ v .kept;
-          blank = v .blank;
-          passed = subst⁻¹ (Each FileKept) more
-              (each-append FileKept (take i (filesOf b)) (getD (b .files) i d ∷ []) (v .passed)
-              (kept-means (getD (b .files) i d) .0 k, tt));
-          sum = added ∙ (λ j. moved (v .sum j) (v .blank j) (getD (b .files) i d))
-              ∙ moved-next (take i (filesOf b)) (getD (b .files) i d) ∙ ap waitingIn (sym more);
-        }
+      pub file-passes : last < getD (b .files) i d .premise → not (t .kept) ≡ false
+          → HeldSofar b n (with totals t) (getD (b .files) i d .premise) (i + 1)
+      file-passes r q =
+          let k = sym (test-says (getD (b .files) i d) e) ∙ not-false (t .kept) q in
+          record {
+            within = omega arith;
+            same = v .same;
+            few = v .few;
+            day = v .day;
+            long = v .long;
+            kept = sym (rising-kept last turn r k) ∙ v .kept;
+            passed = subst⁻¹ (Each FileKept) more
+                (each-append FileKept (take i (filesOf b)) (getD (b .files) i d ∷ []) (v .passed)
+                (kept-means (getD (b .files) i d) .0 k, tt));
+            sum = test-counts (getD (b .files) i d) e totals k ∙ (λ j. moved (v .sum j) blankFile (getD (b .files) i d))
+                ∙ moved-next (take i (filesOf b)) (getD (b .files) i d) ∙ ap waitingIn (sym more);
+          }
 
   -- after the last one the totals are those of all files ..
   all-passed : n ≤ i → totals ≡ waitingIn (filesOf b)

@@ -1,7 +1,7 @@
 -- Laws of a whole file: its test, part by part, where the parts before passed. Assumes nothing.
 use Prim.Native.Nat.{_≤_}
-use mathlib.Core.Path.{_≡_}
-use mathlib.Core.Bool.{Bool, true, false, not, _&&_, and-false}
+use mathlib.Core.Path.{_≡_, ap, _∙_}
+use mathlib.Core.Bool.{Bool, true, false, not, cond, _&&_, and-false}
 use lib.Dec.{eqb, leb}
 use lib.ListN.{length, drop}
 use borrow.Author.Tests.{eq-eqb, leb-true, not-true, not-false}
@@ -13,6 +13,8 @@ use Rattle.records.specs.Records.{aPremise, aRetailerOrNone}
 use Rattle.premise.specs.declared.File.{File}
 use Rattle.premise.specs.Orders.{mostOrders, held}
 use Rattle.premise.specs.WellKept.{orderKept, distinct, isBlank, fileKeptBy, fileKept}
+use Rattle.premise_kept.specs.declared.file.FileTest.{FileTest}
+use Rattle.premise_kept.specs.Test.{passed, refused, fileTest}
 
 module _ (f : File) where
   -- the fields besides the orders and their number
@@ -46,3 +48,12 @@ module _ (f : File) where
       → fileKept f ≡ allOf isBlank (drop (f .count) (f .orders))
   unfolding fileKeptBy
   kept-rest eight h o d = rw (not-false headKept h, eq-eqb (length (f .orders)) mostOrders eight, o, d)
+
+  -- ---- what the test gives
+  pub gives-refused : {r : FileTest} → r ≡ refused → false ≡ fileKept f → r ≡ fileTest f
+  unfolding fileTest
+  gives-refused e k = e ∙ ap (λ (b : Bool). cond b (passed f) refused) k
+
+  pub gives-passed : {r : FileTest} → r ≡ passed f → true ≡ fileKept f → r ≡ fileTest f
+  unfolding fileTest
+  gives-passed e k = e ∙ ap (λ (b : Bool). cond b (passed f) refused) k

@@ -8,14 +8,15 @@ use lib.ListN.{length}
 use borrow.Author.Needs.{needs}
 use borrow.Author.Tests.{not-true, not-false}
 use Rattle.lists.proofs.Length.{unmapped}
+use Rattle.book.specs.Totals.{waitingIn}
 use Rattle.book_files.proofs.Tidy.{past}
 use Rattle.book_files.proofs.kept.WellKept.{
   no-day,
   too-many,
   HeldSofar,
+  few-waiting,
   file-not-rising,
   file-not-kept,
-  file-counts,
   file-passes,
   totals-differ,
   held-done,
@@ -28,16 +29,17 @@ use Rattle.book_files.proofs.kept.book_kept.Statement.{statement}
 use Rattle.book_files.proofs.kept.book_kept.Tie as tie
 
 abbrev Inv-held : tie.InvT-held
-Inv-held b n none totals₀ last₀ i₀ totals last i = HeldSofar b n none totals last i
+Inv-held b n review₀ permit₀ scheduled₀ cancel₀ last₀ i₀ review permit scheduled cancel last i =
+    HeldSofar b n (record { review = review; permit = permit; scheduled = scheduled; cancel = cancel }) last i
 
 abbrev μ-held : tie.MeasureT-held
-μ-held b n none totals₀ last₀ i₀ totals last i = n - i
+μ-held b n review₀ permit₀ scheduled₀ cancel₀ last₀ i₀ review permit scheduled cancel last i = n - i
 
 abbrev Inv-unused : tie.InvT-unused
-Inv-unused b n last i₀ i = UnusedSofar b i
+Inv-unused b n review permit scheduled cancel last i₀ i = UnusedSofar b i
 
 abbrev μ-unused : tie.MeasureT-unused
-μ-unused b n last i₀ i = 64 - i
+μ-unused b n review permit scheduled cancel last i₀ i = 64 - i
 
 returns : tie.Need-returns Inv-held μ-held Inv-unused μ-unused
 returns c = sym (no-day (c .before .args .t1) (omega (arith, c .if1 .taken)))
@@ -45,26 +47,19 @@ returns c = sym (no-day (c .before .args .t1) (omega (arith, c .if1 .taken)))
 returns-2 : tie.Need-returns-2 Inv-held μ-held Inv-unused μ-unused
 returns-2 c = sym (too-many (c .before .before .args .t1) (omega (arith, c .if2 .taken)))
 
-blank-file-requires : tie.Need-blank-file-requires Inv-held μ-held Inv-unused μ-unused
-blank-file-requires c κs = search needs
-
-nothing-requires : tie.Need-nothing-requires Inv-held μ-held Inv-unused μ-unused
-nothing-requires c κs = search needs
-
 held-holds : tie.Need-held-holds Inv-held μ-held Inv-unused μ-unused
+unfolding waitingIn
 held-holds c =
-    let e = c .before .before in
-    let long : length (e .before .before .args .t1 .files) ≡ 64 = search unmapped in
+    let long : length (c .before .before .args .t1 .files) ≡ 64 = search unmapped in
     record {
       within = omega arith;
       same = refl;
-      few = omega (arith, e .if2 .left);
-      day = omega (arith, e .before .if1 .left);
+      few = omega (arith, c .if2 .left);
+      day = omega (arith, c .before .if1 .left);
       long = long;
       kept = refl;
-      blank = c .before .blank-file .ensures;
       passed = tt;
-      sum = c .nothing .ensures;
+      sum = refl;
     }
 
 mul-f : tie.Need-mul-f Inv-held μ-held Inv-unused μ-unused
@@ -82,13 +77,45 @@ file-kept-requires c κs = search needs
 
 returns-4 : tie.Need-returns-4 Inv-held μ-held Inv-unused μ-unused
 returns-4 c =
-    let w = c .before .before .before .before .before in
-    file-not-kept (w .before .held .inv) _ (w .held-test .taken) (sym (c .before .file-kept .ensures) ∙ not-true _ (c .if4 .taken))
+    let k = c .before .before in
+    let w = k .before .before .before .before in
+    file-not-kept (w .before .held .inv) past (w .held-test .taken) (k .file-kept .ensures) (c .if4 .taken)
 
-moved-requires : tie.Need-moved-requires Inv-held μ-held Inv-unused μ-unused
-moved-requires c κs =
-    let w = c .before .before .before .before .before in
-    file-counts (w .before .held .inv) past (w .held-test .taken) (sym (c .before .file-kept .ensures) ∙ not-false _ (c .if4 .left))
+add-review : tie.Need-add-review Inv-held μ-held Inv-unused μ-unused
+add-review c =
+    let e = c .before in
+    let k = e .before .before in
+    let w = k .before .before .before .before in
+    let v = file-passes (w .before .held .inv) past (w .held-test .taken) (k .file-kept .ensures)
+    (omega (arith, k .before .if3 .left)) (e .if4 .left) in
+    omega (arith, few-waiting v .review .1)
+
+add-permit : tie.Need-add-permit Inv-held μ-held Inv-unused μ-unused
+add-permit c =
+    let e = c .before .before in
+    let k = e .before .before in
+    let w = k .before .before .before .before in
+    let v = file-passes (w .before .held .inv) past (w .held-test .taken) (k .file-kept .ensures)
+    (omega (arith, k .before .if3 .left)) (e .if4 .left) in
+    omega (arith, few-waiting v .permit .1)
+
+add-scheduled : tie.Need-add-scheduled Inv-held μ-held Inv-unused μ-unused
+add-scheduled c =
+    let e = c .before .before .before in
+    let k = e .before .before in
+    let w = k .before .before .before .before in
+    let v = file-passes (w .before .held .inv) past (w .held-test .taken) (k .file-kept .ensures)
+    (omega (arith, k .before .if3 .left)) (e .if4 .left) in
+    omega (arith, few-waiting v .dated .1)
+
+add-cancel : tie.Need-add-cancel Inv-held μ-held Inv-unused μ-unused
+add-cancel c =
+    let e = c .before .before .before .before in
+    let k = e .before .before in
+    let w = k .before .before .before .before in
+    let v = file-passes (w .before .held .inv) past (w .held-test .taken) (k .file-kept .ensures)
+    (omega (arith, k .before .if3 .left)) (e .if4 .left) in
+    omega (arith, few-waiting v .cancel .1)
 
 add-i : tie.Need-add-i Inv-held μ-held Inv-unused μ-unused
 add-i c = omega arith
@@ -98,10 +125,11 @@ held-less c = omega arith
 
 held-again : tie.Need-held-again Inv-held μ-held Inv-unused μ-unused
 held-again c =
-    let e = c .before in
-    let w = e .before .before .before .before .before in
-    file-passes (w .before .held .inv) past (w .held-test .taken) (omega (arith, e .before .before .if3 .left))
-    (sym (e .before .file-kept .ensures) ∙ not-false _ (e .if4 .left)) (c .moved .ensures)
+    let e = c .before .before .before .before in
+    let k = e .before .before in
+    let w = k .before .before .before .before in
+    file-passes (w .before .held .inv) past (w .held-test .taken) (k .file-kept .ensures)
+    (omega (arith, k .before .if3 .left)) (e .if4 .left)
 
 same-requires : tie.Need-same-requires Inv-held μ-held Inv-unused μ-unused
 same-requires c κs = search needs
@@ -156,15 +184,16 @@ book-kept-spec =
     μ-unused
     returns
     returns-2
-    blank-file-requires
-    nothing-requires
     held-holds
     mul-f
     element-copy-out-f
     returns-3
     file-kept-requires
     returns-4
-    moved-requires
+    add-review
+    add-permit
+    add-scheduled
+    add-cancel
     add-i
     held-less
     held-again

@@ -1,6 +1,7 @@
--- `file_kept` meets its contract. The loops' invariants: the tests of the orders left give what the tests of all of them give; the search
--- of the later ones left gives what the search of all the later ones gives; the test of the places left gives what the test of the file
--- gives. The measures are what is left. Assumes nothing.
+-- `file_kept` meets its contract. The loops' invariants: the tests and the counts of the orders left, with what has been found, give those
+-- of all of them; the search through the pairs left gives what that through all of them gives, and the search of the later ones left what
+-- that of all the later ones gives; the test of the places left gives what the test of the file gives. The measures are what is left.
+-- Assumes nothing.
 use Prim.Native.Nat.{_-_}
 use mathlib.Core.Path.{_≡_, refl, sym, _∙_}
 use native.Mathlib.Omega.{arith}
@@ -8,183 +9,314 @@ use lib.ListN.{length}
 use borrow.Author.Needs.{needs}
 use borrow.Author.Tests.{not-true, not-false}
 use Rattle.lists.proofs.Length.{unmapped}
-use Rattle.premise.specs.Orders.{mostOrders}
+use Rattle.premise.specs.Orders.{mostOrders, inReview, permitPending, scheduled, cancelPending}
 use Rattle.premise.specs.WellKept.{fileKept}
-use Rattle.premise_kept.proofs.file.Whole.{kept-no-head}
+use Rattle.premise_kept.proofs.file.Whole.{kept-no-head, gives-refused, gives-passed}
 use Rattle.premise_kept.proofs.file.Turns.{
   HeldSofar,
+  PairsSofar,
   LaterSofar,
   few,
   order-not-kept,
+  counted-few,
+  order-passes,
+  order-left,
   reference-again,
   reference-differs,
-  order-passes,
+  reference-alone,
+  counts,
   held-done,
 }
 use Rattle.premise_kept.proofs.unused.Zero.{PlacesLeft, place-used, place-unused, places-end}
 use Rattle.premise_kept.proofs.file.file_kept.Statement.{statement}
 use Rattle.premise_kept.proofs.file.file_kept.Tie as tie
 
-abbrev Inv-later : tie.InvT-later
-Inv-later file n i o j₀ j = LaterSofar file o i j
-
-abbrev μ-later : tie.MeasureT-later
-μ-later file n i o j₀ j = n - j
-
 abbrev Inv-held : tie.InvT-held
-Inv-held file n i₀ i = HeldSofar file n i
+Inv-held file n review₀ permit₀ scheduled₀ cancel₀ last₀ rising₀ i₀ review permit scheduled cancel last rising i =
+    HeldSofar file n review permit scheduled cancel last rising i
 
 abbrev μ-held : tie.MeasureT-held
-μ-held file n i₀ i = n - i
+μ-held file n review₀ permit₀ scheduled₀ cancel₀ last₀ rising₀ i₀ review permit scheduled cancel last rising i = n - i
+
+abbrev Inv-later : tie.InvT-later
+Inv-later file n review permit scheduled cancel last rising i first reference later₀ later = LaterSofar file reference first later
+
+abbrev μ-later : tie.MeasureT-later
+μ-later file n review permit scheduled cancel last rising i first reference later₀ later = n - later
+
+abbrev Inv-pairs : tie.InvT-pairs
+Inv-pairs file n review permit scheduled cancel last rising i first₀ first = PairsSofar file first
+
+abbrev μ-pairs : tie.MeasureT-pairs
+μ-pairs file n review permit scheduled cancel last rising i first₀ first = n - first
 
 abbrev Inv-unused : tie.InvT-unused
-Inv-unused file n i₀ i = PlacesLeft (file .orders) (fileKept file) i
+Inv-unused file n review permit scheduled cancel last rising i₀ first i = PlacesLeft (file .orders) (fileKept file) i
 
 abbrev μ-unused : tie.MeasureT-unused
-μ-unused file n i₀ i = mostOrders - i
+μ-unused file n review permit scheduled cancel last rising i₀ first i = mostOrders - i
 
-cast-if1 : tie.Need-cast-if1 Inv-later μ-later Inv-held μ-held Inv-unused μ-unused
+cast-if1 : tie.Need-cast-if1 Inv-held μ-held Inv-later μ-later Inv-pairs μ-pairs Inv-unused μ-unused
 cast-if1 c = search needs
 
-returns : tie.Need-returns Inv-later μ-later Inv-held μ-held Inv-unused μ-unused
-returns c = kept-no-head (c .before .args .t1) (c .if1 .taken)
+refused-requires : tie.Need-refused-requires Inv-held μ-held Inv-later μ-later Inv-pairs μ-pairs Inv-unused μ-unused
+refused-requires c κs = search needs
 
-held-holds : tie.Need-held-holds Inv-later μ-later Inv-held μ-held Inv-unused μ-unused
+returns : tie.Need-returns Inv-held μ-held Inv-later μ-later Inv-pairs μ-pairs Inv-unused μ-unused
+returns c =
+    let t = c .before in gives-refused (t .before .args .t1) (c .refused .ensures) (kept-no-head (t .before .args .t1) (t .if1 .taken))
+
+held-holds : tie.Need-held-holds Inv-held μ-held Inv-later μ-later Inv-pairs μ-pairs Inv-unused μ-unused
 held-holds c =
     let e : length (c .before .args .t1 .orders) ≡ 8 = search unmapped in
-    record { within = omega arith; same = refl; eight = e; head = c .if1 .left; orders = refl; references = refl }
+    record {
+      within = omega arith;
+      same = refl;
+      eight = e;
+      head = c .if1 .left;
+      orders = refl;
+      rises = refl;
+      reviews = omega arith;
+      permits = omega arith;
+      dates = omega arith;
+      cancels = omega arith;
+    }
 
-mul-o : tie.Need-mul-o Inv-later μ-later Inv-held μ-held Inv-unused μ-unused
+mul-o : tie.Need-mul-o Inv-held μ-held Inv-later μ-later Inv-pairs μ-pairs Inv-unused μ-unused
 mul-o c = omega (arith, c .held-test .taken, few (c .before .held .inv))
 
-element-copy-out-o : tie.Need-element-copy-out-o Inv-later μ-later Inv-held μ-held Inv-unused μ-unused
+element-copy-out-o : tie.Need-element-copy-out-o Inv-held μ-held Inv-later μ-later Inv-pairs μ-pairs Inv-unused μ-unused
 element-copy-out-o c = omega (arith, c .held-test .taken, few (c .before .held .inv))
 
-order-kept-requires : tie.Need-order-kept-requires Inv-later μ-later Inv-held μ-held Inv-unused μ-unused
+order-kept-requires : tie.Need-order-kept-requires Inv-held μ-held Inv-later μ-later Inv-pairs μ-pairs Inv-unused μ-unused
 order-kept-requires c κs = search needs
 
-returns-2 : tie.Need-returns-2 Inv-later μ-later Inv-held μ-held Inv-unused μ-unused
+refused-requires-2 : tie.Need-refused-requires-2 Inv-held μ-held Inv-later μ-later Inv-pairs μ-pairs Inv-unused μ-unused
+refused-requires-2 c κs = search needs
+
+returns-2 : tie.Need-returns-2 Inv-held μ-held Inv-later μ-later Inv-pairs μ-pairs Inv-unused μ-unused
 returns-2 c =
-    let w = c .before .before .before in
-    order-not-kept (w .before .held .inv) (w .held-test .taken) (sym (c .before .order-kept .ensures) ∙ not-true _ (c .if2 .taken))
+    let t = c .before in
+    let w = t .before .before .before in
+    gives-refused _ (c .refused2 .ensures)
+    (order-not-kept (w .before .held .inv) (w .held-test .taken) (sym (t .before .order-kept .ensures) ∙ not-true _ (t .if2 .taken)))
 
-add-i : tie.Need-add-i Inv-later μ-later Inv-held μ-held Inv-unused μ-unused
+cast-review : tie.Need-cast-review Inv-held μ-held Inv-later μ-later Inv-pairs μ-pairs Inv-unused μ-unused
+cast-review c = search needs
+
+add-review : tie.Need-add-review Inv-held μ-held Inv-later μ-later Inv-pairs μ-pairs Inv-unused μ-unused
+add-review c =
+    let w = c .before .before .before .before in
+    record { fits = counted-few (w .before .held .inv) (w .held-test .taken) inReview _ (w .before .held .inv .reviews) }
+
+cast-permit : tie.Need-cast-permit Inv-held μ-held Inv-later μ-later Inv-pairs μ-pairs Inv-unused μ-unused
+cast-permit c = search needs
+
+add-permit : tie.Need-add-permit Inv-held μ-held Inv-later μ-later Inv-pairs μ-pairs Inv-unused μ-unused
+add-permit c =
+    let w = c .before .before .before .before .before in
+    record { fits = counted-few (w .before .held .inv) (w .held-test .taken) permitPending _ (w .before .held .inv .permits) }
+
+cast-scheduled : tie.Need-cast-scheduled Inv-held μ-held Inv-later μ-later Inv-pairs μ-pairs Inv-unused μ-unused
+cast-scheduled c = search needs
+
+add-scheduled : tie.Need-add-scheduled Inv-held μ-held Inv-later μ-later Inv-pairs μ-pairs Inv-unused μ-unused
+add-scheduled c =
+    let w = c .before .before .before .before .before .before in
+    record { fits = counted-few (w .before .held .inv) (w .held-test .taken) scheduled _ (w .before .held .inv .dates) }
+
+cast-cancel : tie.Need-cast-cancel Inv-held μ-held Inv-later μ-later Inv-pairs μ-pairs Inv-unused μ-unused
+cast-cancel c = search needs
+
+add-cancel : tie.Need-add-cancel Inv-held μ-held Inv-later μ-later Inv-pairs μ-pairs Inv-unused μ-unused
+add-cancel c =
+    let w = c .before .before .before .before .before .before .before in
+    record { fits = counted-few (w .before .held .inv) (w .held-test .taken) cancelPending _ (w .before .held .inv .cancels) }
+
+add-i : tie.Need-add-i Inv-held μ-held Inv-later μ-later Inv-pairs μ-pairs Inv-unused μ-unused
 add-i c =
-    let w = c .before .before .before in omega (arith, w .held-test .taken, few (w .before .held .inv))
+    let w = c .before .before .before .before .before .before .before .before in
+    omega (arith, w .held-test .taken, few (w .before .held .inv))
 
-later-holds : tie.Need-later-holds Inv-later μ-later Inv-held μ-held Inv-unused μ-unused
+held-less : tie.Need-held-less Inv-held μ-held Inv-later μ-later Inv-pairs μ-pairs Inv-unused μ-unused
+held-less c =
+    let w = c .before .before .before .before .before .before .before .before in omega (arith, w .held-test .taken)
+
+held-again : tie.Need-held-again Inv-held μ-held Inv-later μ-later Inv-pairs μ-pairs Inv-unused μ-unused
+held-again c =
+    let e = c .before .before .before .before .before in
+    let w = e .before .before .before in
+    order-passes (w .before .held .inv) (w .held-test .taken) (sym (e .before .order-kept .ensures) ∙ not-false _ (e .if2 .left))
+
+pairs-holds : tie.Need-pairs-holds Inv-held μ-held Inv-later μ-later Inv-pairs μ-pairs Inv-unused μ-unused
+pairs-holds c = refl
+
+mul-reference : tie.Need-mul-reference Inv-held μ-held Inv-later μ-later Inv-pairs μ-pairs Inv-unused μ-unused
+mul-reference c =
+    let v = c .before .before .before .held .inv in
+    omega (arith, order-left v (c .before .pairs .first) (c .pairs-test .taken), few v)
+
+element-copy-out-reference : tie.Need-element-copy-out-reference Inv-held μ-held Inv-later μ-later Inv-pairs μ-pairs Inv-unused μ-unused
+element-copy-out-reference c =
+    let v = c .before .before .before .held .inv in
+    omega (arith, order-left v (c .before .pairs .first) (c .pairs-test .taken), few v)
+
+add-first : tie.Need-add-first Inv-held μ-held Inv-later μ-later Inv-pairs μ-pairs Inv-unused μ-unused
+add-first c =
+    let v = c .before .before .before .held .inv in
+    omega (arith, order-left v (c .before .pairs .first) (c .pairs-test .taken), few v)
+
+later-holds : tie.Need-later-holds Inv-held μ-held Inv-later μ-later Inv-pairs μ-pairs Inv-unused μ-unused
 later-holds c = refl
 
-held-less : tie.Need-held-less Inv-later μ-later Inv-held μ-held Inv-unused μ-unused
-held-less c =
-    let w = c .before .before .before .before .before in omega (arith, w .held-test .taken)
+pairs-less : tie.Need-pairs-less Inv-held μ-held Inv-later μ-later Inv-pairs μ-pairs Inv-unused μ-unused
+pairs-less c =
+    let p = c .before .before in
+    omega (arith, order-left (p .before .before .before .held .inv) (p .before .pairs .first) (p .pairs-test .taken))
 
-held-again : tie.Need-held-again Inv-later μ-later Inv-held μ-held Inv-unused μ-unused
-held-again c =
+pairs-again : tie.Need-pairs-again Inv-held μ-held Inv-later μ-later Inv-pairs μ-pairs Inv-unused μ-unused
+pairs-again c =
     let m = c .before in
-    let e = m .before in
-    let w = e .before .before .before in
-    order-passes (w .before .held .inv) (w .held-test .taken) (m .later .j) (m .later .inv) (c .later-test .left)
-    (sym (e .before .order-kept .ensures) ∙ not-false _ (e .if2 .left))
+    let p = m .before in
+    let v = p .before .before .before .held .inv in
+    reference-alone v (p .before .pairs .first) (p .before .pairs .inv)
+    (order-left v (p .before .pairs .first) (p .pairs-test .taken)) (m .later .later) (m .later .inv) (c .later-test .left)
 
-mul-other : tie.Need-mul-other Inv-later μ-later Inv-held μ-held Inv-unused μ-unused
-mul-other c =
-    let w = c .before .before .before .before .before in omega (arith, c .later-test .taken, few (w .before .held .inv))
+mul-if3 : tie.Need-mul-if3 Inv-held μ-held Inv-later μ-later Inv-pairs μ-pairs Inv-unused μ-unused
+mul-if3 c =
+    let p = c .before .before in omega (arith, c .later-test .taken, few (p .before .before .before .held .inv))
 
-element-copy-out-other : tie.Need-element-copy-out-other Inv-later μ-later Inv-held μ-held Inv-unused μ-unused
-element-copy-out-other c =
-    let w = c .before .before .before .before .before in omega (arith, c .later-test .taken, few (w .before .held .inv))
+element-copy-out-if3 : tie.Need-element-copy-out-if3 Inv-held μ-held Inv-later μ-later Inv-pairs μ-pairs Inv-unused μ-unused
+element-copy-out-if3 c =
+    let p = c .before .before in omega (arith, c .later-test .taken, few (p .before .before .before .held .inv))
 
-returns-3 : tie.Need-returns-3 Inv-later μ-later Inv-held μ-held Inv-unused μ-unused
+refused-requires-3 : tie.Need-refused-requires-3 Inv-held μ-held Inv-later μ-later Inv-pairs μ-pairs Inv-unused μ-unused
+refused-requires-3 c κs = search needs
+
+returns-3 : tie.Need-returns-3 Inv-held μ-held Inv-later μ-later Inv-pairs μ-pairs Inv-unused μ-unused
 returns-3 c =
-    let t = c .before .before .before .before in
-    let m = t .before in
-    let w = m .before .before .before .before in
-    reference-again (w .before .held .inv) (w .held-test .taken) (m .later .j) (m .later .inv) (t .later-test .taken) (c .if3 .taken)
+    let t = c .before in
+    let m = t .before .before in
+    let p = m .before in
+    let v = p .before .before .before .held .inv in
+    gives-refused _ (c .refused3 .ensures)
+    (reference-again v (p .before .pairs .first) (p .before .pairs .inv)
+    (order-left v (p .before .pairs .first) (p .pairs-test .taken)) (m .later .later) (m .later .inv)
+    (t .before .later-test .taken) (t .if3 .taken))
 
-add-j : tie.Need-add-j Inv-later μ-later Inv-held μ-held Inv-unused μ-unused
-add-j c =
-    let t = c .before .before .before .before in
-    let w = t .before .before .before .before .before in
-    omega (arith, t .later-test .taken, few (w .before .held .inv))
+add-later : tie.Need-add-later Inv-held μ-held Inv-later μ-later Inv-pairs μ-pairs Inv-unused μ-unused
+add-later c =
+    let p = c .before .before .before in
+    omega (arith, c .before .later-test .taken, few (p .before .before .before .held .inv))
 
-later-less : tie.Need-later-less Inv-later μ-later Inv-held μ-held Inv-unused μ-unused
-later-less c =
-    let t = c .before .before .before .before in omega (arith, t .later-test .taken)
+later-less : tie.Need-later-less Inv-held μ-held Inv-later μ-later Inv-pairs μ-pairs Inv-unused μ-unused
+later-less c = omega (arith, c .before .later-test .taken)
 
-later-again : tie.Need-later-again Inv-later μ-later Inv-held μ-held Inv-unused μ-unused
+later-again : tie.Need-later-again Inv-held μ-held Inv-later μ-later Inv-pairs μ-pairs Inv-unused μ-unused
 later-again c =
-    let t = c .before .before .before .before in
-    let m = t .before in
-    let w = m .before .before .before .before in
-    reference-differs (w .before .held .inv) (w .held-test .taken) (m .later .j) (m .later .inv) (t .later-test .taken) (c .if3 .left)
+    let m = c .before .before in
+    let p = m .before in
+    let v = p .before .before .before .held .inv in
+    reference-differs v (p .before .pairs .first) (p .before .pairs .inv)
+    (order-left v (p .before .pairs .first) (p .pairs-test .taken)) (m .later .later) (m .later .inv)
+    (c .before .later-test .taken) (c .if3 .left)
 
-unused-holds : tie.Need-unused-holds Inv-later μ-later Inv-held μ-held Inv-unused μ-unused
-unused-holds c = held-done (c .before .held .inv) (c .held-test .left)
+unused-holds : tie.Need-unused-holds Inv-held μ-held Inv-later μ-later Inv-pairs μ-pairs Inv-unused μ-unused
+unused-holds c =
+    let h = c .before .before in
+    held-done (h .before .held .inv) (h .held-test .left) (c .before .pairs .first) (c .before .pairs .inv) (c .pairs-test .left)
 
-mul-o-2 : tie.Need-mul-o-2 Inv-later μ-later Inv-held μ-held Inv-unused μ-unused
+mul-o-2 : tie.Need-mul-o-2 Inv-held μ-held Inv-later μ-later Inv-pairs μ-pairs Inv-unused μ-unused
 mul-o-2 c = omega (arith, c .unused-test .taken)
 
-element-copy-out-o-2 : tie.Need-element-copy-out-o-2 Inv-later μ-later Inv-held μ-held Inv-unused μ-unused
+element-copy-out-o-2 : tie.Need-element-copy-out-o-2 Inv-held μ-held Inv-later μ-later Inv-pairs μ-pairs Inv-unused μ-unused
 element-copy-out-o-2 c = omega (arith, c .unused-test .taken)
 
-is-blank-requires : tie.Need-is-blank-requires Inv-later μ-later Inv-held μ-held Inv-unused μ-unused
+is-blank-requires : tie.Need-is-blank-requires Inv-held μ-held Inv-later μ-later Inv-pairs μ-pairs Inv-unused μ-unused
 is-blank-requires c κs = search needs
 
-returns-4 : tie.Need-returns-4 Inv-later μ-later Inv-held μ-held Inv-unused μ-unused
-returns-4 c =
-    let w = c .before .before .before in
-    place-used (w .before .unused .inv) (omega (arith, w .unused-test .taken))
-    (sym (c .before .is-blank .ensures) ∙ not-true _ (c .if4 .taken))
+refused-requires-4 : tie.Need-refused-requires-4 Inv-held μ-held Inv-later μ-later Inv-pairs μ-pairs Inv-unused μ-unused
+refused-requires-4 c κs = search needs
 
-add-i-2 : tie.Need-add-i-2 Inv-later μ-later Inv-held μ-held Inv-unused μ-unused
+returns-4 : tie.Need-returns-4 Inv-held μ-held Inv-later μ-later Inv-pairs μ-pairs Inv-unused μ-unused
+returns-4 c =
+    let t = c .before in
+    let w = t .before .before .before in
+    gives-refused _ (c .refused4 .ensures)
+    (place-used (w .before .unused .inv) (omega (arith, w .unused-test .taken))
+    (sym (t .before .is-blank .ensures) ∙ not-true _ (t .if4 .taken)))
+
+add-i-2 : tie.Need-add-i-2 Inv-held μ-held Inv-later μ-later Inv-pairs μ-pairs Inv-unused μ-unused
 add-i-2 c =
     let w = c .before .before .before in omega (arith, w .unused-test .taken)
 
-unused-less : tie.Need-unused-less Inv-later μ-later Inv-held μ-held Inv-unused μ-unused
+unused-less : tie.Need-unused-less Inv-held μ-held Inv-later μ-later Inv-pairs μ-pairs Inv-unused μ-unused
 unused-less c =
     let w = c .before .before .before in omega (arith, w .unused-test .taken)
 
-unused-again : tie.Need-unused-again Inv-later μ-later Inv-held μ-held Inv-unused μ-unused
+unused-again : tie.Need-unused-again Inv-held μ-held Inv-later μ-later Inv-pairs μ-pairs Inv-unused μ-unused
 unused-again c =
     let w = c .before .before .before in
     place-unused (w .before .unused .inv) (omega (arith, w .unused-test .taken))
     (sym (c .before .is-blank .ensures) ∙ not-false _ (c .if4 .left))
 
-returns-5 : tie.Need-returns-5 Inv-later μ-later Inv-held μ-held Inv-unused μ-unused
-returns-5 c = places-end (c .before .unused .inv) (omega (arith, c .unused-test .left))
+returns-5 : tie.Need-returns-5 Inv-held μ-held Inv-later μ-later Inv-pairs μ-pairs Inv-unused μ-unused
+returns-5 c =
+    let h = c .before .before .before .before in
+    gives-passed _ (counts (h .before .held .inv) (h .held-test .left))
+    (places-end (c .before .unused .inv) (omega (arith, c .unused-test .left)))
 
 pub file-kept-spec : {M : Type 1} → statement M
 file-kept-spec =
     tie.close
     (tie.spec
-    Inv-later
-    μ-later
     Inv-held
     μ-held
+    Inv-later
+    μ-later
+    Inv-pairs
+    μ-pairs
     Inv-unused
     μ-unused
     cast-if1
+    refused-requires
     returns
     held-holds
     mul-o
     element-copy-out-o
     order-kept-requires
+    refused-requires-2
     returns-2
+    cast-review
+    add-review
+    cast-permit
+    add-permit
+    cast-scheduled
+    add-scheduled
+    cast-cancel
+    add-cancel
     add-i
-    later-holds
     held-less
     held-again
-    mul-other
-    element-copy-out-other
+    pairs-holds
+    mul-reference
+    element-copy-out-reference
+    add-first
+    later-holds
+    pairs-less
+    pairs-again
+    mul-if3
+    element-copy-out-if3
+    refused-requires-3
     returns-3
-    add-j
+    add-later
     later-less
     later-again
     unused-holds
     mul-o-2
     element-copy-out-o-2
     is-blank-requires
+    refused-requires-4
     returns-4
     add-i-2
     unused-less

@@ -1,2 +1,3 @@
 pub mod Contenders
+pub mod Ousting
 pub mod PassSteps

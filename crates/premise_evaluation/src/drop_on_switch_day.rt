@@ -6,12 +6,13 @@ ghost use Rattle.premise.specs.Orders.{held};
 ghost use Rattle.premise.specs.Evaluation.{switchOn, isDisplaced, dropOnSwitchDay};
 ghost use Rattle.premise.specs.WellKept.{Tidy};
 ghost use Rattle.premise.specs.Promises.{Room, DoneToOrder};
+ghost use Rattle.premise_evaluation.specs.Ousting.{isNearDrop};
 use premise::File;
 use premise::Order;
 use premise::OrderAfter;
 
 // Whether an order is a Scheduled switch for a day. Few orders are: each test spares the next.
-fn is_switch_on(day: u16, o: Order) -> bool
+pub fn is_switch_on(day: u16, o: Order) -> bool
     ensures { λ r. ⌜ r ≡ switchOn day o ⌝ }
 {
     if !crate::order_tests::is_switch(o) {
@@ -38,14 +39,21 @@ fn any_switch_on(file: File, day: u16) -> bool
     false
 }
 
+// Whether an order is a Scheduled drop in window.
+pub fn is_near_drop(last: u16, o: Order) -> bool
+    ensures { λ r. ⌜ r ≡ isNearDrop (upTo last) o ⌝ }
+{
+    (o.kind == records::order_kind::MASS_TRANSITION_DROP)
+        & (o.status == premise::SCHEDULED)
+        & (o.scheduled <= last)
+}
+
 // Whether an order is a drop that a switch displaces.
-pub fn is_displaced(last: u16, file: File, o: Order) -> bool
+fn is_displaced(last: u16, file: File, o: Order) -> bool
     requires { ⌜ Tidy file ⌝ }
     ensures { λ r. ⌜ r ≡ isDisplaced (upTo last) (held file) o ⌝ }
 {
-    if !((o.kind == records::order_kind::MASS_TRANSITION_DROP)
-        & (o.status == premise::SCHEDULED)
-        & (o.scheduled <= last)) {
+    if !is_near_drop(last, o) {
         return false;
     }
     any_switch_on(file, o.scheduled)

@@ -11,14 +11,14 @@ use premise_notices::tell;
 use records::order_kind::MOVE_OUT;
 
 // Whether an order is Scheduled and in window, and a retailer is still to be told of it. Of a move out there is one to be told only where
-// there is an agreement.
+// there is an agreement. Most orders are not Scheduled: that test spares the others.
 pub fn is_due(last: u16, agreement: u64, o: Order) -> bool
     ensures { λ r. ⌜ r ≡ isDue (upTo last) agreement o ⌝ }
 {
-    (o.status == premise::SCHEDULED)
-        & ((o.kind != MOVE_OUT) | (agreement != premise::NOBODY))
-        & (o.told == 0)
-        & (o.scheduled <= last)
+    if o.status != premise::SCHEDULED {
+        return false;
+    }
+    ((o.kind != MOVE_OUT) | (agreement != premise::NOBODY)) & (o.told == 0) & (o.scheduled <= last)
 }
 
 // Pass 4 on an order.

@@ -5,12 +5,13 @@ ghost use Rattle.premise.specs.Orders.{held};
 ghost use Rattle.premise.specs.Evaluation.{overtakes, isOvertaken, permitOvertaken};
 ghost use Rattle.premise.specs.WellKept.{Tidy};
 ghost use Rattle.premise.specs.Promises.{Room, DoneToOrder};
+ghost use Rattle.premise_evaluation.specs.Ousting.{awaitsPermit};
 use premise::File;
 use premise::Order;
 use premise::OrderAfter;
 
 // Whether an order is a Scheduled move in whose day has come, requested for after another day. Few orders are: each test spares the next.
-fn is_overtaking(today: u16, requested: u16, o: Order) -> bool
+pub fn is_overtaking(today: u16, requested: u16, o: Order) -> bool
     ensures { λ r. ⌜ r ≡ overtakes today requested o ⌝ }
 {
     if o.kind != records::order_kind::MOVE_IN {
@@ -40,12 +41,19 @@ fn any_overtakes(today: u16, file: File, requested: u16) -> bool
     false
 }
 
+// Whether an order is a move in that awaits its permit.
+pub fn awaits_permit(o: Order) -> bool
+    ensures { λ r. ⌜ r ≡ awaitsPermit o ⌝ }
+{
+    (o.kind == records::order_kind::MOVE_IN) & (o.status == premise::PERMIT_PENDING)
+}
+
 // Whether an order is a Permit Pending move in that another overtook.
-pub fn is_overtaken(today: u16, file: File, o: Order) -> bool
+fn is_overtaken(today: u16, file: File, o: Order) -> bool
     requires { ⌜ Tidy file ⌝ }
     ensures { λ r. ⌜ r ≡ isOvertaken today (held file) o ⌝ }
 {
-    if !((o.kind == records::order_kind::MOVE_IN) & (o.status == premise::PERMIT_PENDING)) {
+    if !awaits_permit(o) {
         return false;
     }
     any_overtakes(today, file, o.requested)

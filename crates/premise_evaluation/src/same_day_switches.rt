@@ -6,6 +6,7 @@ ghost use Rattle.premise.specs.Orders.{held};
 ghost use Rattle.premise.specs.Evaluation.{switchOfDay, givesWay, sameDaySwitch};
 ghost use Rattle.premise.specs.WellKept.{Tidy};
 ghost use Rattle.premise_evaluation.specs.Contenders.{rival};
+ghost use Rattle.premise_evaluation.specs.Ousting.{isPreferred};
 ghost use Rattle.premise.specs.Promises.{Room, DoneToOrder};
 use lists::Found;
 use premise::File;
@@ -19,6 +20,16 @@ fn is_rival(last: u16, day: u16, only: bool, o: Order) -> bool
     crate::order_tests::is_contender(last, o)
         & (o.scheduled == day)
         & (!only | (o.status == premise::SCHEDULED))
+}
+
+// Of the switches of a day, whether another, at a place j, is kept rather than the one at a place i.
+pub fn is_preferred(i: usize, o: Order, j: usize, other: Order) -> bool
+    ensures { λ r. ⌜ r ≡ isPreferred i o j other ⌝ }
+{
+    if o.status == premise::SCHEDULED {
+        return (other.status == premise::SCHEDULED) & (j < i);
+    }
+    (other.status == premise::SCHEDULED) | ((other.status == premise::CANCEL_PENDING) & (j < i))
 }
 
 // The place of the oldest such switch of a file.
@@ -37,7 +48,7 @@ fn first_rival(file: File, last: u16, day: u16, only: bool) -> Found
 }
 
 // The place of the switch that is kept for a day: the oldest Scheduled one, or the oldest if none is Scheduled.
-pub fn switch_of_day(file: File, last: u16, day: u16) -> Found
+fn switch_of_day(file: File, last: u16, day: u16) -> Found
     requires { ⌜ Tidy file ⌝ }
     ensures { λ r. ⌜ r ≡ switchOfDay (upTo last) (held file) day ⌝ }
 {
@@ -49,7 +60,7 @@ pub fn switch_of_day(file: File, last: u16, day: u16) -> Found
 }
 
 // Whether the order at a place gives way to the switch that is kept for its day.
-pub fn gives_way(last: u16, file: File, i: usize, o: Order) -> bool
+fn gives_way(last: u16, file: File, i: usize, o: Order) -> bool
     requires { ⌜ Tidy file ⌝ }
     ensures { λ r. ⌜ r ≡ givesWay (upTo last) (held file) i o ⌝ }
 {

@@ -1,27 +1,19 @@
--- Whether the evaluation changes an order: by the one pass that may, and by what the order says by itself. Assumes nothing.
+-- Whether the evaluation changes an order, by what the order says by itself; of one that it leaves, what each pass asks is not so. Assumes
+-- nothing.
 use Prim.Native.Nat.{ℕ}
 use mathlib.Core.Path.{_≡_, refl, sym, _∙_}
 use mathlib.Core.List.{List}
-use mathlib.Core.Bool.{Bool, true, false, _&&_, _||_, false≢true}
-use borrow.Author.Tests.{ne-eqb}
+use mathlib.Core.Bool.{Bool, true, false, _&&_, _||_}
 use Rattle.lists.proofs.TestLaws.{or-left, or-right}
 use Rattle.days.specs.Window.{upTo}
 use Rattle.premise.specs.declared.Order.{Order}
-use Rattle.premise.specs.Orders.{permitPending, hasStatus, isSwitch}
+use Rattle.premise.specs.Orders.{permitPending, hasStatus}
 use Rattle.premise.specs.Evaluation.{isScheduledOrCancelPending, givesWay, isDisplaced, isOvertaken, isDue}
 use Rattle.premise_laws.specs.Changes.{mayChange}
 use Rattle.premise_laws.specs.Changes.{changesOrder}
-use Rattle.premise_laws.proofs.OtherPasses.{no-switch, displaced-other, not-overtaken, far-gives-no-way, far-displaced, far-due}
+use Rattle.premise_laws.proofs.OtherPasses.{not-overtaken, far-gives-no-way, far-displaced, far-due}
 
--- ---- one of four tests, where the others fail
-only-first : (a b c d : Bool) → b ≡ false → c ≡ false → d ≡ false → a ≡ (a || b || c || d)
-only-first true b c d f g h = refl
-only-first false b c d f g h = simp (f, g, h)
-
-only-second : (a b c d : Bool) → a ≡ false → c ≡ false → d ≡ false → b ≡ (a || b || c || d)
-only-second a true c d f g h = simp f
-only-second a false c d f g h = simp (f, g, h)
-
+-- ---- one of four tests
 only-third : (a b c d : Bool) → a ≡ false → b ≡ false → d ≡ false → c ≡ (a || b || c || d)
 only-third a b true d f g h = simp (f, g)
 only-third a b false d f g h = simp (f, g, h)
@@ -38,7 +30,6 @@ pub record LetBe (today last agreement : ℕ) (os : List Order) (i : ℕ) (o : O
   pub four : isDue (upTo last) agreement o ≡ false
 
 module _ (today last agreement : ℕ) (os : List Order) (i : ℕ) (o : Order) where
-  -- ---- the pass that may change it
   pub changes-due : isDue (upTo last) agreement o ≡ true → true ≡ changesOrder today last agreement os i o
   unfolding changesOrder
   changes-due e =
@@ -51,26 +42,6 @@ module _ (today last agreement : ℕ) (os : List Order) (i : ℕ) (o : Order) wh
   changes-far far =
       only-third (givesWay (upTo last) os i o) (isDisplaced (upTo last) os o) (isOvertaken today os o) (isDue (upTo last) agreement o)
       (far-gives-no-way (upTo last) os o far i) (far-displaced (upTo last) os o far) (far-due (upTo last) os o far agreement)
-
-  pub changes-permit : o .status ≡ permitPending → isOvertaken today os o ≡ changesOrder today last agreement os i o
-  changes-permit p = changes-far (rw p)
-
-  module _ (p : o .status ≡ permitPending → ⊥) (d : isDue (upTo last) agreement o ≡ false) where
-    pub changes-switch : isSwitch o ≡ true → givesWay (upTo last) os i o ≡ changesOrder today last agreement os i o
-    unfolding changesOrder
-    changes-switch s =
-        only-first (givesWay (upTo last) os i o) (isDisplaced (upTo last) os o) (isOvertaken today os o) (isDue (upTo last) agreement o)
-        (sym (displaced-other (upTo last) os o (λ k. false≢true (rw k at s))))
-        (not-overtaken today os o (ne-eqb (o .status) permitPending p))
-        d
-
-    pub changes-other : isSwitch o ≡ false → isDisplaced (upTo last) os o ≡ changesOrder today last agreement os i o
-    unfolding changesOrder
-    changes-other s =
-        only-second (givesWay (upTo last) os i o) (isDisplaced (upTo last) os o) (isOvertaken today os o) (isDue (upTo last) agreement o)
-        (no-switch (upTo last) os i o s)
-        (not-overtaken today os o (ne-eqb (o .status) permitPending p))
-        d
 
   -- ---- what it says by itself
   pub changes-not : mayChange last o ≡ false → changesOrder today last agreement os i o ≡ false

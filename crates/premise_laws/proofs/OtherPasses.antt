@@ -4,21 +4,12 @@ use mathlib.Core.Path.{_≡_, refl, ap}
 use mathlib.Core.List.{List}
 use mathlib.Core.Bool.{Bool, true, false, not, _&&_, _||_}
 use lib.Dec.{eqb}
-use borrow.Author.Tests.{ne-eqb}
 use Rattle.lists.specs.Search.{anyOf, isAt}
 use Rattle.records.specs.Records.{moveIn, moveOut, massTransitionDrop}
 use Rattle.premise.specs.declared.Order.{Order}
 use Rattle.premise.specs.Orders.{permitPending, scheduled, cancelPending, hasStatus, hasKind, isSwitch, noRetailer}
 use Rattle.premise.specs.Evaluation.{isScheduledOrCancelPending, contends, switchOfDay, givesWay, switchOn, isDisplaced, overtakes}
 use Rattle.premise.specs.Evaluation.{isOvertaken, isDue}
-
-pub no-switch : (near : ℕ → Bool) (os : List Order) (i : ℕ) (o : Order) → isSwitch o ≡ false → givesWay near os i o ≡ false
-unfolding givesWay contends
-no-switch near os i o e = simp e
-
-pub displaced-other : (near : ℕ → Bool) (os : List Order) (o : Order) → (o .kind ≡ massTransitionDrop → ⊥) → false ≡ isDisplaced near os o
-unfolding isDisplaced
-displaced-other near os o k = simp (ne-eqb (o .kind) massTransitionDrop k)
 
 pub not-overtaken : (today : ℕ) (os : List Order) (o : Order) → hasStatus permitPending o ≡ false → isOvertaken today os o ≡ false
 unfolding isOvertaken

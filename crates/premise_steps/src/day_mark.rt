@@ -1,5 +1,4 @@
-// The day mark on a file, and whether it changes one: most files on most marks it leaves. Each order is asked by itself first: a call that
-// takes the file copies it.
+// The day mark on a file, and whether it changes one: most files on most marks it leaves.
 ghost use mathlib.Core.Path.{_≡_};
 ghost use Rattle.premise.specs.WellKept.{Tidy};
 ghost use Rattle.premise_laws.specs.Changes.{markChangesFile};
@@ -8,23 +7,32 @@ ghost use Rattle.premise.specs.Promises.{DoneToFile, Evaluable};
 use premise::File;
 use premise::FileAfter;
 
-// Whether a day mark changes a file: whether the clock or the evaluation changes one of its orders.
+// Whether a day mark changes a file: whether the clock or the evaluation changes one of its orders. (The evaluation is asked order against
+// order, in the loop that asks the clock: a function that takes the file and reads its places makes a copy of it.)
 pub fn mark_changes_file(business: bool, today: u16, last: u16, file: File) -> bool
     requires { ⌜ Tidy file ⌝ }
     ensures { λ r. ⌜ r ≡ markChangesFile business today last file ⌝ }
 {
     let n = file.count;
     let mut i: usize = 0;
-    while i < n {
+    'held: while i < n {
         let o = file.orders[i];
-        let at = i;
+        let place = i;
         i += 1;
         if premise_clock::clock_changes_order(business, today, o) {
             return true;
         }
-        if premise_evaluation::may_change_order(last, o) {
-            if premise_evaluation::changes_order(today, last, file, at, o) {
-                return true;
+        if premise_evaluation::is_due(last, file.agreement, o) {
+            return true;
+        }
+        if premise_evaluation::may_be_ousted(last, o) {
+            let mut j: usize = 0;
+            'others: while j < n {
+                let other = file.orders[j];
+                if premise_evaluation::ousts(today, last, place, o, j, other) {
+                    return true;
+                }
+                j += 1;
             }
         }
     }

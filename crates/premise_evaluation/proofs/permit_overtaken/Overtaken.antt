@@ -2,14 +2,15 @@
 use Prim.Native.Nat.{ℕ, _<_, _≤_}
 use mathlib.Core.Path.{_≡_, sym, ap}
 use mathlib.Core.List.{List}
-use mathlib.Core.Bool.{Bool, true, false, not, _&&_}
+use mathlib.Core.Bool.{Bool, true, false, _&&_}
 use lib.Dec.{ltb}
-use borrow.Author.Tests.{eq-eqb, ne-eqb, le-leb, lt-leb, not-true, not-false}
+use borrow.Author.Tests.{eq-eqb, ne-eqb, le-leb, lt-leb}
 use Rattle.lists.specs.Search.{anyOf}
 use Rattle.records.specs.Records.{moveIn}
 use Rattle.premise.specs.declared.Order.{Order}
-use Rattle.premise.specs.Orders.{permitPending, scheduled, hasStatus, hasKind}
+use Rattle.premise.specs.Orders.{scheduled}
 use Rattle.premise.specs.Evaluation.{overtakes, isOvertaken}
+use Rattle.premise_evaluation.specs.Ousting.{awaitsPermit}
 
 module _ (today requested : ℕ) (o : Order) where
   pub overtakes-other : (o .kind ≡ moveIn → ⊥) → false ≡ overtakes today requested o
@@ -25,15 +26,11 @@ module _ (today requested : ℕ) (o : Order) where
       → ltb requested (o .requested) ≡ overtakes today requested o
   overtakes-by-request k s d = simp (eq-eqb (o .kind) moveIn k, eq-eqb (o .status) scheduled s, le-leb (o .scheduled) today d)
 
--- a move in that awaits its permit
-abbrev pub awaitsPermit : Order → Bool
-awaitsPermit o = hasKind moveIn o && hasStatus permitPending o
-
 module _ (today : ℕ) (os : List Order) (o : Order) where
-  pub overtaken-none : not (awaitsPermit o) ≡ true → false ≡ isOvertaken today os o
+  pub overtaken-none : awaitsPermit o ≡ false → false ≡ isOvertaken today os o
   unfolding isOvertaken
-  overtaken-none e = sym (ap (λ (b : Bool). b && anyOf (overtakes today (o .requested)) os) (not-true (awaitsPermit o) e))
+  overtaken-none e = sym (ap (λ (b : Bool). b && anyOf (overtakes today (o .requested)) os) e)
 
-  pub overtaken-any : not (awaitsPermit o) ≡ false → anyOf (overtakes today (o .requested)) os ≡ isOvertaken today os o
+  pub overtaken-any : awaitsPermit o ≡ true → anyOf (overtakes today (o .requested)) os ≡ isOvertaken today os o
   unfolding isOvertaken
-  overtaken-any e = sym (ap (λ (b : Bool). b && anyOf (overtakes today (o .requested)) os) (not-false (awaitsPermit o) e))
+  overtaken-any e = sym (ap (λ (b : Bool). b && anyOf (overtakes today (o .requested)) os) e)

@@ -1,0 +1,3 @@
+pub mod Ousted
+pub mod PlaceTests
+pub mod SwitchKept

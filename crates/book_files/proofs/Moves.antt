@@ -1,21 +1,19 @@
--- What it asks to move a well-kept book's totals, and what that leaves: for a file stored at a place, put in, taken out. Assumes nothing.
+-- What it asks to move a well-kept book's totals to a file that is stored at a place, and what that leaves. Assumes nothing.
 use Prim.Native.Nat.{ℕ, _≤_, _<_}
 use mathlib.Core.Path.{_≡_, refl, sym, subst, subst⁻¹, _∙_}
 use native.Mathlib.Omega.{arith}
 use lib.ListN.{length, getD, set}
 use lib.Seq.{getD-take}
-use Rattle.lists.specs.Shift.{inserted, removed}
-use Rattle.lists.proofs.SearchLaws.{each-at}
 use Rattle.premise.specs.declared.File.{File}
 use Rattle.premise.specs.Orders.{blankFile, places}
-use Rattle.premise.specs.WellKept.{Tidy, FileKept}
+use Rattle.premise.specs.WellKept.{Tidy}
 use Rattle.book.specs.declared.Book.{Book}
 use Rattle.book.specs.declared.Waiting.{Waiting}
 use Rattle.book.specs.Totals.{waitingIn, moved, Counts}
 use Rattle.book.specs.Book.{mostFiles, filesOf}
 use Rattle.book.specs.Laws.{BookKept}
 use Rattle.book.proofs.Kept.{count-is, totals-are}
-use Rattle.book.proofs.Totals.{counts-none, counts-at, moved-store, moved-insert, moved-remove}
+use Rattle.book.proofs.Totals.{counts-at, moved-store}
 use Rattle.book_files.proofs.Tidy.{past}
 
 -- an unused file is tidy
@@ -30,26 +28,12 @@ module _ (b : Book) (k : BookKept b) where
   few : length (filesOf b) ≤ mostFiles
   few = omega (arith, k .tidy .few, count-is b (k .tidy))
 
-  -- none of its orders is an unused file's
-  pub none-counted : {none : File} → none ≡ blankFile → Counts (b .waiting) none
-  none-counted e =
-      subst⁻¹ (Counts (b .waiting)) e
-      (subst⁻¹ (λ (w : Waiting). Counts w blankFile) (totals-are b (k .tidy)) (counts-none (filesOf b) few (k .files)))
-
-  pub inserted-totals : (at : ℕ) (f : File) {none : File} {totals : Waiting} → none ≡ blankFile → totals ≡ moved (b .waiting) none f
-      → totals ≡ waitingIn (inserted at f (filesOf b))
-  inserted-totals at f e sum =
-      sum ∙ (λ i. moved (totals-are b (k .tidy) i) (e i) f) ∙ moved-insert (filesOf b) at f
-
   module _ (at : ℕ) (h : at < b .count) where
     inside : at < length (filesOf b)
     inside = omega (arith, h, count-is b (k .tidy))
 
     read : getD (filesOf b) at past ≡ getD (b .files) at past
     read = getD-take (b .count) (b .files) at past h
-
-    pub place-tidy : Tidy (getD (b .files) at past)
-    place-tidy = subst Tidy read (each-at FileKept (filesOf b) at past inside (k .files) .tidy)
 
     -- the orders of the file at a place are among its own
     pub place-counted : Counts (b .waiting) (getD (b .files) at past)
@@ -62,8 +46,3 @@ module _ (b : Book) (k : BookKept b) where
         → totals ≡ waitingIn (set (filesOf b) at g)
     stored-totals g sum =
         sum ∙ (λ i. moved (totals-are b (k .tidy) i) (sym read i) g) ∙ moved-store (filesOf b) at past g inside
-
-    pub removed-totals : {none : File} {totals : Waiting} → none ≡ blankFile
-        → totals ≡ moved (b .waiting) (getD (b .files) at past) none → totals ≡ waitingIn (removed at (filesOf b))
-    removed-totals e sum =
-        sum ∙ (λ i. moved (totals-are b (k .tidy) i) (sym read i) (e i)) ∙ moved-remove (filesOf b) at past inside

@@ -1,4 +1,4 @@
--- The premise numbers of a book's places, read off one place after another. Assumes nothing.
+-- The premise numbers of a book's places, read off one place after another, and stored with the files. Assumes nothing.
 use Prim.Native.Nat.{ℕ, zero, suc, _+_, _<_}
 use mathlib.Core.Path.{_≡_, refl, sym, ap, _∙_}
 use mathlib.Core.List.{List, [], _∷_, map}
@@ -16,6 +16,17 @@ pub map-at : {X Y : Type 0} (part : X → Y) (d : X) (z : Y) (l : List X) (i : �
 map-at part d z [] i h = absurd (omega arith)
 map-at part d z (x ∷ xs) zero h = refl
 map-at part d z (x ∷ xs) (suc i) h = map-at part d z xs i (omega arith)
+
+-- a file stored at a place, and its number at the same
+map-set : {X Y : Type 0} (part : X → Y) (l : List X) (i : ℕ) (x : X) → set (map part l) i (part x) ≡ map part (set l i x)
+map-set part [] i x = refl
+map-set part (y ∷ ys) zero x = refl
+map-set {Y = Y} part (y ∷ ys) (suc i) x = ap (λ (l : List Y). part y ∷ l) (map-set part ys i x)
+
+pub number-stored : (b : Book) (numbers : List ℕ) → numbers ≡ numbersOf b → (i : ℕ) (f : File)
+    → set numbers i (f .premise) ≡ map (λ (g : File). g .premise) (set (b .files) i f)
+number-stored b numbers e i f =
+    ap (λ (l : List ℕ). set l i (f .premise)) e ∙ map-set (λ (g : File). g .premise) (b .files) i f
 
 -- the numbers of a book's first places, and zeros
 abbrev pub readOff : Book → ℕ → List ℕ

@@ -1,8 +1,7 @@
-// The files of a book: none, one put in or taken out; the totals of waiting orders where one is stored; whether the book is well kept; the
-// premise numbers of its places, and where a premise stands among them.
+// The files of a book: none; the totals of waiting orders where one is stored; whether the book is well kept; the premise numbers of its
+// places, and where a premise stands among them.
 mod kept;
 mod premise_numbers;
-mod shifts;
 mod start;
 mod waiting;
 
@@ -10,7 +9,5 @@ pub use kept::book_kept;
 pub use premise_numbers::Place;
 pub use premise_numbers::place_of;
 pub use premise_numbers::premises;
-pub use shifts::insert;
-pub use shifts::remove;
 pub use start::empty;
 pub use waiting::moved;

@@ -1,5 +1,5 @@
 -- Each way that the call of a record is made on a book that stays in its place. Assumes nothing.
-use Prim.Native.Nat.{ℕ, _*_, _-_, _≤_, _<_}
+use Prim.Native.Nat.{ℕ, _+_, _*_, _-_, _≤_, _<_}
 use mathlib.Core.Path.{_≡_, refl, sym, ap, subst, subst⁻¹, _∙_}
 use mathlib.Core.List.{List, []}
 use mathlib.Core.Option.{some}
@@ -18,7 +18,7 @@ use Rattle.premise.specs.declared.File.{File}
 use Rattle.premise.specs.declared.PremiseAfter.{PremiseAfter}
 use Rattle.premise.specs.declared.Answer.{Answer}
 use Rattle.premise.specs.declared.Answer.the-variants.{Accepted, OrderOpen}
-use Rattle.premise.specs.Orders.{isOpen, held, places}
+use Rattle.premise.specs.Orders.{isOpen, held, blankFile}
 use Rattle.premise.specs.Steps.{newFile}
 use Rattle.premise.specs.WellKept.{Tidy, FileKept}
 use Rattle.premise.specs.OnePremise.{givenOn}
@@ -37,13 +37,16 @@ use Rattle.book.proofs.Kept.{count-is, book-kept-means}
 use Rattle.book.proofs.OnHeld.{call-on-held}
 use Rattle.book.proofs.ByReading.{mark-keeps-numbers}
 use Rattle.book.proofs.CallsInRow.{called-room}
-use Rattle.book_files.proofs.Tidy.{past, withTotals, length-files}
+use Rattle.book_files.proofs.Tidy.{past, withTotals, withPlaces, length-files}
 use Rattle.book_files.proofs.Moves.{place-counted, stored-totals}
 use Rattle.book_player.specs.declared.dispatch.Task.{Task}
 use Rattle.book_player.specs.declared.dispatch.Task.the-variants.{Refused, Opens, Closes, NextDay}
 use Rattle.book_player.specs.declared.dispatch.Task.the-variants as variant
 use Rattle.book_player.specs.Tasks.{taskOf, Known, KnownOpens, KnownCloses, KnownHeld}
+use Rattle.book_player.proofs.Closing.{Closing, close-none, close-book, close-own}
 use Rattle.book_player.proofs.Marking.{Asked, Marking, dated, mark-asks, mark-book, mark-wrote}
+use Rattle.book_player.proofs.NoneWaiting.{NoneWaits, totals-put-in, totals-taken-out}
+use Rattle.book_player.proofs.Opening.{Opening, open-none, open-book}
 use Rattle.book_player.proofs.Tasks.{task-known}
 
 -- a well-kept book, the premise numbers of its places, and a buffer in which some notices stand and those of any call find room
@@ -83,11 +86,6 @@ made-of {standing = standing} {buffer = buffer} {o = o} result e answer book wro
       wrote = subst⁻¹ (λ (x : Result). Writes standing buffer (o .buffer) (o .sent) (x .notices)) e wrote;
       own = own;
     }
-
--- a new file has no order
-new-tidy : (r : Record) → Tidy (newFile r)
-unfolding places
-new-tidy r = record { few = omega arith; whole = refl }
 
 module _ {b : Book} {numbers : List ℕ} {standing : ℕ} {buffer : List ℕ} (t : Standing b numbers standing buffer) where
   pub well-kept : BookKept b
@@ -177,16 +175,25 @@ module _ {b : Book} {numbers : List ℕ} {standing : ℕ} {buffer : List ℕ} (t
       opens : KnownOpens bytes b at r
       opens = known (Opens at r) is
 
-      pub open-asks : {f : File} → f ≡ newFile r → BookKept b × (at ≤ b .count) × (b .count < mostFiles) × Tidy f
-      open-asks new = (well-kept, opens .within, opens .free, subst⁻¹ Tidy new (new-tidy r))
+      pub opening : (f : File) → Opening b at f b numbers f at
+      opening f = open-none b (well-kept .tidy) at f (opens .within) (opens .free) (t .own)
 
-      pub by-opening : {calendar : List ℕ} {f : File} {c : Book} {after : List ℕ} → f ≡ newFile r
-          → c ≡ bookOf (b .today) (inserted at f (filesOf b)) → after ≡ numbersOf c
+      -- a new file holds no order
+      pub by-opening : {calendar : List ℕ} {f : File} → f ≡ newFile r → {i : ℕ} {c : Book} {carry : File} {after : List ℕ}
+          → Opening b at f c after carry i → b .count < i
           → Made calendar b bytes standing buffer
-          (record { answer = Accepted; sent = standing; book = c; numbers = after; buffer = buffer })
-      by-opening {calendar} new put own =
-          made-of _ (opens .result calendar) refl (put ∙ ap (λ (g : File). bookOf (b .today) (inserted at g (filesOf b))) new)
-          (writes-none standing buffer) own
+          (record {
+            answer = Accepted;
+            sent = standing;
+            book = withPlaces c (b .count + 1) (c .files);
+            numbers = after;
+            buffer = buffer;
+          })
+      by-opening {calendar} {f} new o end =
+          made-of _ (opens .result calendar) refl
+          (open-book o end (totals-put-in b (well-kept .tidy) at f (subst⁻¹ NoneWaits new refl))
+          ∙ ap (λ (g : File). bookOf (b .today) (inserted at g (filesOf b))) new)
+          (writes-none standing buffer) (o .own)
 
     -- ---- a retire closes one
     module _ {at : ℕ} (is : task ≡ Closes at) where
@@ -199,8 +206,8 @@ module _ {b : Book} {numbers : List ℕ} {standing : ℕ} {buffer : List ℕ} (t
       pub closed-tidy : Tidy (getD (b .files) at past)
       closed-tidy = file-kept at (closes .within) .tidy
 
-      pub close-asks : BookKept b × (at < b .count)
-      close-asks = (well-kept, closes .within)
+      pub closing : Closing b at b numbers at
+      closing = close-none b (well-kept .tidy) at (closes .within) (t .own)
 
       -- what comes of it, by whether an order is open
       by-open : {one : Bool} → anyOf isOpen (held (getD (b .files) at past)) ≡ one → (calendar : List ℕ)
@@ -214,8 +221,17 @@ module _ {b : Book} {numbers : List ℕ} {standing : ℕ} {buffer : List ℕ} (t
           (record { answer = OrderOpen; sent = standing; book = b; numbers = numbers; buffer = buffer })
       by-open-order {calendar} e = made-of _ (by-open e calendar) refl refl (writes-none standing buffer) (t .own)
 
-      pub by-closing : {calendar : List ℕ} {c : Book} {after : List ℕ} → anyOf isOpen (held (getD (b .files) at past)) ≡ false
-          → c ≡ bookOf (b .today) (removed at (filesOf b)) → after ≡ numbersOf c
+      pub by-closing : {calendar : List ℕ} → anyOf isOpen (held (getD (b .files) at past)) ≡ false
+          → {i : ℕ} {c : Book} {after : List ℕ} → Closing b at c after i → b .count - 1 ≤ i → {none : File} → none ≡ blankFile
           → Made calendar b bytes standing buffer
-          (record { answer = Accepted; sent = standing; book = c; numbers = after; buffer = buffer })
-      by-closing {calendar} e is own = made-of _ (by-open e calendar) refl is (writes-none standing buffer) own
+          (record {
+            answer = Accepted;
+            sent = standing;
+            book = withPlaces c (b .count - 1) (set (c .files) (b .count - 1) none);
+            numbers = set after (b .count - 1) 0;
+            buffer = buffer;
+          })
+      by-closing {calendar} e o end blank =
+          made-of _ (by-open e calendar) refl
+          (close-book o end blank (totals-taken-out b (well-kept .tidy) at (closes .within) e))
+          (writes-none standing buffer) (close-own o end blank)

@@ -23,7 +23,8 @@ pub fn record_end(from: usize, length: usize) -> usize
 
 // Plays the records of a stretch of tape, one call each: as many as there are answers to note, and as long as any record's notices surely
 // find room. A refusal leaves the book; a record on a premise that is held stores one file, a mark the files that it changes, and the
-// totals of waiting orders move with each of these and for no other; only a create and a retire, which are rare, move files.
+// totals of waiting orders move with each of these and for no other; only a create and a retire, which are rare, move files. They move no
+// total: a new file holds no order, and one that is taken out has none open. (In this function: a call would hand the book over.)
 pub fn play(
     calendar: &[u8],
     b: Book,
@@ -92,17 +93,34 @@ pub fn play(
                 }
             }
             Task::Opens(at, r) => {
-                let f = premise_file::new_file(r);
-                c = book_files::insert(c, at, f);
-                numbers = book_files::premises(c);
+                let mut carry = premise_file::new_file(r);
+                let mut place = at;
+                while place <= count {
+                    let g = c.files[place];
+                    c.files[place] = carry;
+                    numbers[place] = carry.premise;
+                    carry = g;
+                    place += 1;
+                }
+                c.count = count + 1;
             }
             Task::Closes(at) => {
                 let f = c.files[at];
                 if premise_file::any_open(f) {
                     last = Answer::OrderOpen;
                 } else {
-                    c = book_files::remove(c, at);
-                    numbers = book_files::premises(c);
+                    let left = count - 1;
+                    let mut freed = at;
+                    while freed < left {
+                        let g = c.files[freed + 1];
+                        c.files[freed] = g;
+                        numbers[freed] = g.premise;
+                        freed += 1;
+                    }
+                    let none = premise_file::blank_file();
+                    c.files[left] = none;
+                    numbers[left] = 0;
+                    c.count = left;
                 }
             }
         }

@@ -1,7 +1,7 @@
 -- `play` meets its contract. The outer loop's invariant: the records before the one reached are played and noted, and the course of those
--- that are left is the rest of the whole; its measure is the answers that can still be noted. The inner loop's: the files before the one
--- reached are marked; its measure is the files left. Assumes nothing.
-use Prim.Native.Nat.{_*_, _-_, _≤_, _<_}
+-- that are left is the rest of the whole; its measure is the answers that can still be noted. The inner loops': the files before the one
+-- reached are marked, or have moved; their measure is the files left. Assumes nothing.
+use Prim.Native.Nat.{_+_, _*_, _-_, _≤_, _<_}
 use mathlib.Core.Path.{refl, sym, _∙_}
 use mathlib.Core.Logic.{⊎-elim}
 use native.Mathlib.Omega.{arith}
@@ -11,11 +11,13 @@ use Rattle.records.specs.Layout.{recordLength}
 use Rattle.book.specs.Book.{mostFiles}
 use Rattle.book.specs.Calls.{noticeBytes}
 use Rattle.book_files.proofs.Tidy.{past}
+use Rattle.book_player.proofs.Closing.{Closing, close-more}
 use Rattle.book_player.proofs.Marking.{Marking, mark-none}
 use Rattle.book_player.proofs.MarkTurns.{mark-place, mark-tidy, mark-width, mark-window, mark-room, mark-moves, mark-more}
 use Rattle.book_player.proofs.MarkTurns.{mark-still}
+use Rattle.book_player.proofs.Opening.{Opening, open-more}
 use Rattle.book_player.proofs.Ways.{Standing, Made, made-as, each-place, task-asks, by-refusal, held-place, held-asks, held-moves}
-use Rattle.book_player.proofs.Ways.{by-file, day-asks, by-marks, open-asks, by-opening, close-place, closed-tidy, close-asks}
+use Rattle.book_player.proofs.Ways.{by-file, day-asks, by-marks, opening, by-opening, close-place, closed-tidy, closing}
 use Rattle.book_player.proofs.Ways.{by-open-order, by-closing}
 use Rattle.book_player.proofs.Playing.{Playing, playing-none, answers-length, counts-length, notices-length, sent-within, standing}
 use Rattle.book_player.proofs.Playing.{sent-more, sent-few, playing-more, plays-most, plays-all, plays-room}
@@ -32,6 +34,24 @@ abbrev μ-loop2 : tie.MeasureT-loop2
     place =
     count - place
 
+abbrev Inv-loop3 : tie.InvT-loop3
+Inv-loop3 calendar tape answers counts notices c₀ numbers₀ played sent from last to count standing at carry₀ place₀ c numbers carry
+    place =
+    Opening c₀ at carry₀ c numbers carry place
+
+abbrev μ-loop3 : tie.MeasureT-loop3
+μ-loop3 calendar tape answers counts notices c₀ numbers₀ played sent from last to count standing at carry₀ place₀ c numbers carry
+    place =
+    count + 1 - place
+
+abbrev Inv-loop4 : tie.InvT-loop4
+Inv-loop4 calendar tape answers counts notices c₀ numbers₀ played sent from last to count standing at left freed₀ c numbers freed =
+    Closing c₀ at c numbers freed
+
+abbrev μ-loop4 : tie.MeasureT-loop4
+μ-loop4 calendar tape answers counts notices c₀ numbers₀ played sent from last to count standing at left freed₀ c numbers freed =
+    left - freed
+
 abbrev Inv-loop : tie.InvT-loop
 Inv-loop calendar tape answers₀ counts₀ notices₀ c₀ numbers₀ played₀ sent₀ from₀ last₀ answers counts notices c numbers played sent from
     last =
@@ -42,7 +62,7 @@ abbrev μ-loop : tie.MeasureT-loop
     last =
     length answers₀ - played
 
-loop-holds : tie.Need-loop-holds Inv-loop2 μ-loop2 Inv-loop μ-loop
+loop-holds : tie.Need-loop-holds Inv-loop2 μ-loop2 Inv-loop3 μ-loop3 Inv-loop4 μ-loop4 Inv-loop μ-loop
 loop-holds c =
     let s = c .before .before .before .before .before .before in
     let a = s .args in
@@ -50,32 +70,33 @@ loop-holds c =
     (c .premises .ensures)
 
 -- where the function began
-abbrev began : (l : tie.At-loop Inv-loop2 μ-loop2 Inv-loop μ-loop) → tie.Start Inv-loop2 μ-loop2 Inv-loop μ-loop
+abbrev began : (l : tie.At-loop Inv-loop2 μ-loop2 Inv-loop3 μ-loop3 Inv-loop4 μ-loop4 Inv-loop μ-loop)
+    → tie.Start Inv-loop2 μ-loop2 Inv-loop3 μ-loop3 Inv-loop4 μ-loop4 Inv-loop μ-loop
 began l = l .before .before .before .before .before .before .before
 
 -- a record is left and finds room
-room-left : (e : tie.Else2 Inv-loop2 μ-loop2 Inv-loop μ-loop)
+room-left : (e : tie.Else2 Inv-loop2 μ-loop2 Inv-loop3 μ-loop3 Inv-loop4 μ-loop4 Inv-loop μ-loop)
     → noticeBytes ≤ length (e .before .before .before .loop .notices) - recordLength * e .before .before .before .loop .sent
 room-left e = omega (arith, e .if2 .left)
 
-stands : (e : tie.Else2 Inv-loop2 μ-loop2 Inv-loop μ-loop)
+stands : (e : tie.Else2 Inv-loop2 μ-loop2 Inv-loop3 μ-loop3 Inv-loop4 μ-loop4 Inv-loop μ-loop)
     → Standing (e .before .before .before .loop .c) (e .before .before .before .loop .numbers) (e .before .before .before .loop .sent)
     (e .before .before .before .loop .notices)
 stands e = let i = e .before .before in standing (i .before .loop .inv) (i .loop-test .taken) (e .before .if1 .left) (room-left e)
 
 -- ---- the record's premise is held
-held-at : (d : tie.After-task2 Inv-loop2 μ-loop2 Inv-loop μ-loop) → d .task2 .given .0 .0 < mostFiles
+held-at : (d : tie.After-task2 Inv-loop2 μ-loop2 Inv-loop3 μ-loop3 Inv-loop4 μ-loop4 Inv-loop μ-loop) → d .task2 .given .0 .0 < mostFiles
 held-at d =
     let k = d .before .before in
     held-place (stands (k .before .before .before .before)) _ (k .task-of .ensures) (d .task2 .given .1)
 
-on-file-requires : tie.Need-on-file-requires Inv-loop2 μ-loop2 Inv-loop μ-loop
+on-file-requires : tie.Need-on-file-requires Inv-loop2 μ-loop2 Inv-loop3 μ-loop3 Inv-loop4 μ-loop4 Inv-loop μ-loop
 on-file-requires c κs =
     let d = c .before .before .before in
     let k = d .before .before in
     held-asks (stands (k .before .before .before .before)) _ (k .task-of .ensures) (d .task2 .given .1) _
 
-moved-requires : tie.Need-moved-requires Inv-loop2 μ-loop2 Inv-loop μ-loop
+moved-requires : tie.Need-moved-requires Inv-loop2 μ-loop2 Inv-loop3 μ-loop3 Inv-loop4 μ-loop4 Inv-loop μ-loop
 moved-requires c κs =
     let o = c .before .before .before .before in
     let d = o .before .before .before .before in
@@ -85,30 +106,32 @@ moved-requires c κs =
     (o .on-file .result) (o .on-file .ensures)
 
 -- ---- it marks the next day
-loop2-holds : tie.Need-loop2-holds Inv-loop2 μ-loop2 Inv-loop μ-loop
+loop2-holds : tie.Need-loop2-holds Inv-loop2 μ-loop2 Inv-loop3 μ-loop3 Inv-loop4 μ-loop4 Inv-loop μ-loop
 loop2-holds c =
     let k = c .before .before .before .before .before in
     mark-none _ _ _ _ _ (day-asks (stands (k .before .before .before .before)) _ _)
 
 -- the file at the place reached stands in the book
-marks-within : (i : tie.In-loop2 Inv-loop2 μ-loop2 Inv-loop μ-loop) → i .before .loop2 .place < mostFiles
+marks-within : (i : tie.In-loop2 Inv-loop2 μ-loop2 Inv-loop3 μ-loop3 Inv-loop4 μ-loop4 Inv-loop μ-loop)
+    → i .before .loop2 .place < mostFiles
 marks-within i = mark-place (i .before .loop2 .inv) (i .loop2-test .taken)
 
 -- where the file that is left is stored
-abbrev storing : (c : tie.After-moved2 Inv-loop2 μ-loop2 Inv-loop μ-loop) → tie.In-loop2 Inv-loop2 μ-loop2 Inv-loop μ-loop
+abbrev storing : (c : tie.After-moved2 Inv-loop2 μ-loop2 Inv-loop3 μ-loop3 Inv-loop4 μ-loop4 Inv-loop μ-loop)
+    → tie.In-loop2 Inv-loop2 μ-loop2 Inv-loop3 μ-loop3 Inv-loop4 μ-loop4 Inv-loop μ-loop
 storing c = c .before .before .before .before .before .before .before .before .before .before .before .before
 
 -- its window has one of the widths of which the last days are known
-marks-width : (k : tie.After-struct-known Inv-loop2 μ-loop2 Inv-loop μ-loop)
+marks-width : (k : tie.After-struct-known Inv-loop2 μ-loop2 Inv-loop3 μ-loop3 Inv-loop4 μ-loop4 Inv-loop μ-loop)
     → (let l = k .before .before .before .loop2 in
     let width = getD (l .c .files) (l .place) past .window in
     (1 ≤ width) × (width ≤ mostWidth))
 marks-width k = let i = k .before .before in mark-width (i .before .loop2 .inv) (i .loop2-test .taken)
 
-mark-changes-file-requires : tie.Need-mark-changes-file-requires Inv-loop2 μ-loop2 Inv-loop μ-loop
+mark-changes-file-requires : tie.Need-mark-changes-file-requires Inv-loop2 μ-loop2 Inv-loop3 μ-loop3 Inv-loop4 μ-loop4 Inv-loop μ-loop
 mark-changes-file-requires c κs = let i = c .before .before in mark-tidy (i .before .loop2 .inv) (i .loop2-test .taken)
 
-mark-requires : tie.Need-mark-requires Inv-loop2 μ-loop2 Inv-loop μ-loop
+mark-requires : tie.Need-mark-requires Inv-loop2 μ-loop2 Inv-loop3 μ-loop3 Inv-loop4 μ-loop4 Inv-loop μ-loop
 mark-requires c κs =
     let i = c .before .before .before .before .before .before in
     let j = i .before in
@@ -118,19 +141,19 @@ mark-requires c κs =
       window = mark-window (j .loop2 .inv) (i .loop2-test .taken) _ (j .before .last-days .ensures);
     }
 
-moved-requires-2 : tie.Need-moved-requires-2 Inv-loop2 μ-loop2 Inv-loop μ-loop
+moved-requires-2 : tie.Need-moved-requires-2 Inv-loop2 μ-loop2 Inv-loop3 μ-loop3 Inv-loop4 μ-loop4 Inv-loop μ-loop
 moved-requires-2 c κs =
     let x = c .before .before .before .before in
     let i = x .before .before .before .before .before .before .before in
     mark-moves (i .before .loop2 .inv) (i .loop2-test .taken) (x .mark .result) (x .mark .ensures)
 
-loop2-again : tie.Need-loop2-again Inv-loop2 μ-loop2 Inv-loop μ-loop
+loop2-again : tie.Need-loop2-again Inv-loop2 μ-loop2 Inv-loop3 μ-loop3 Inv-loop4 μ-loop4 Inv-loop μ-loop
 loop2-again c =
     let x = c .before .before .before .before .before in
     let i = x .before .before .before .before .before .before .before in
     mark-more (i .before .loop2 .inv) (i .loop2-test .taken) (x .mark .result) (x .mark .ensures) (c .moved2 .ensures)
 
-loop2-again-2 : tie.Need-loop2-again-2 Inv-loop2 μ-loop2 Inv-loop μ-loop
+loop2-again-2 : tie.Need-loop2-again-2 Inv-loop2 μ-loop2 Inv-loop3 μ-loop3 Inv-loop4 μ-loop4 Inv-loop μ-loop
 loop2-again-2 c =
     let u = c .before in
     let i = u .before .before .before in
@@ -138,33 +161,49 @@ loop2-again-2 c =
     mark-still (j .loop2 .inv) (i .loop2-test .taken) _ (j .before .before .is-business-day .ensures)
     (mark-window (j .loop2 .inv) (i .loop2-test .taken) _ (j .before .last-days .ensures)) (u .mark-changes-file .ensures) (c .if3 .left)
 
--- ---- it opens a place, or closes one
-insert-requires : tie.Need-insert-requires Inv-loop2 μ-loop2 Inv-loop μ-loop
-insert-requires c κs =
+-- ---- it opens a place
+loop3-holds : tie.Need-loop3-holds Inv-loop2 μ-loop2 Inv-loop3 μ-loop3 Inv-loop4 μ-loop4 Inv-loop μ-loop
+loop3-holds c =
     let d = c .before .before in
     let k = d .before .before in
-    let h = open-asks (stands (k .before .before .before .before)) _ (k .task-of .ensures) (d .task4 .given .1) (c .new-file .ensures) in
-    (h .0, omega (arith, h .1), h .2, h .3)
+    opening (stands (k .before .before .before .before)) _ (k .task-of .ensures) (d .task4 .given .1) _
 
-close-at : (d : tie.After-task5 Inv-loop2 μ-loop2 Inv-loop μ-loop) → d .task5 .given .0 .0 < mostFiles
+-- the place reached is one of the book's
+opens-within : (i : tie.In-loop3 Inv-loop2 μ-loop2 Inv-loop3 μ-loop3 Inv-loop4 μ-loop4 Inv-loop μ-loop)
+    → i .before .loop3 .place < mostFiles
+opens-within i = omega (arith, i .loop3-test .taken, i .before .loop3 .inv .free)
+
+loop3-again : tie.Need-loop3-again Inv-loop2 μ-loop2 Inv-loop3 μ-loop3 Inv-loop4 μ-loop4 Inv-loop μ-loop
+loop3-again c = let i = c .before in open-more (i .before .loop3 .inv) (i .loop3-test .taken)
+
+-- ---- it closes one
+close-at : (d : tie.After-task5 Inv-loop2 μ-loop2 Inv-loop3 μ-loop3 Inv-loop4 μ-loop4 Inv-loop μ-loop) → d .task5 .given .0 .0 < mostFiles
 close-at d =
     let k = d .before .before in
     close-place (stands (k .before .before .before .before)) _ (k .task-of .ensures) (d .task5 .given .1)
 
-any-open-requires : tie.Need-any-open-requires Inv-loop2 μ-loop2 Inv-loop μ-loop
+any-open-requires : tie.Need-any-open-requires Inv-loop2 μ-loop2 Inv-loop3 μ-loop3 Inv-loop4 μ-loop4 Inv-loop μ-loop
 any-open-requires c κs =
     let d = c .before .before in
     let k = d .before .before in
     closed-tidy (stands (k .before .before .before .before)) _ (k .task-of .ensures) (d .task5 .given .1)
 
-remove-requires : tie.Need-remove-requires Inv-loop2 μ-loop2 Inv-loop μ-loop
-remove-requires c κs =
+loop4-holds : tie.Need-loop4-holds Inv-loop2 μ-loop2 Inv-loop3 μ-loop3 Inv-loop4 μ-loop4 Inv-loop μ-loop
+loop4-holds c =
     let d = c .before .before .before .before in
     let k = d .before .before in
-    close-asks (stands (k .before .before .before .before)) _ (k .task-of .ensures) (d .task5 .given .1)
+    closing (stands (k .before .before .before .before)) _ (k .task-of .ensures) (d .task5 .given .1)
+
+-- a file stands behind the place that is free now
+closes-within : (i : tie.In-loop4 Inv-loop2 μ-loop2 Inv-loop3 μ-loop3 Inv-loop4 μ-loop4 Inv-loop μ-loop)
+    → i .before .loop4 .freed + 1 < mostFiles
+closes-within i = omega (arith, i .loop4-test .taken, i .before .loop4 .inv .tidy .few)
+
+loop4-again : tie.Need-loop4-again Inv-loop2 μ-loop2 Inv-loop3 μ-loop3 Inv-loop4 μ-loop4 Inv-loop μ-loop
+loop4-again c = let i = c .before in close-more (i .before .loop4 .inv) (i .loop4-test .taken) refl
 
 -- ---- its call is made, by one of the six ways
-abbrev MadeAt : tie.At-match-came Inv-loop2 μ-loop2 Inv-loop μ-loop → Type 0
+abbrev MadeAt : tie.At-match-came Inv-loop2 μ-loop2 Inv-loop3 μ-loop3 Inv-loop4 μ-loop4 Inv-loop μ-loop → Type 0
 MadeAt c =
     let m = c .before .before .before .before in
     let l = m .before .before .before .before in
@@ -179,7 +218,7 @@ MadeAt c =
       buffer = c .match .notices;
     })
 
-made : (c : tie.At-match-came Inv-loop2 μ-loop2 Inv-loop μ-loop) → MadeAt c
+made : (c : tie.At-match-came Inv-loop2 μ-loop2 Inv-loop3 μ-loop3 Inv-loop4 μ-loop4 Inv-loop μ-loop) → MadeAt c
 made c =
     let k = c .before in
     let v = stands (k .before .before .before .before) in
@@ -194,16 +233,17 @@ made c =
     (by-marks v _ (k .task-of .ensures) (x .1 .given .1) (x .5 .inv) (x .6 .left)))
     (⊎-elim
     (λ x. made-as (λ i. record { answer = x .10 i; sent = x .9 i; book = x .7 i; numbers = x .8 i; buffer = x .6 i })
-    (by-opening v _ (k .task-of .ensures) (x .1 .given .1) (x .3 .ensures) (x .4 .ensures) (x .5 .ensures)))
+    (by-opening v _ (k .task-of .ensures) (x .1 .given .1) (x .3 .ensures) (x .4 .inv) (x .5 .left)))
     (⊎-elim
     (λ x. made-as (λ i. record { answer = x .10 i; sent = x .9 i; book = x .7 i; numbers = x .8 i; buffer = x .6 i })
     (by-open-order v _ (k .task-of .ensures) (x .1 .given .1) (sym (x .4 .ensures) ∙ x .5 .taken)))
-    (λ x. made-as (λ i. record { answer = x .12 i; sent = x .11 i; book = x .9 i; numbers = x .10 i; buffer = x .8 i })
-    (by-closing v _ (k .task-of .ensures) (x .1 .given .1) (sym (x .4 .ensures) ∙ x .5 .left) (x .6 .ensures) (x .7 .ensures)))))))
+    (λ x. made-as (λ i. record { answer = x .13 i; sent = x .12 i; book = x .10 i; numbers = x .11 i; buffer = x .9 i })
+    (by-closing v _ (k .task-of .ensures) (x .1 .given .1) (sym (x .4 .ensures) ∙ x .5 .left) (x .6 .inv) (x .7 .left)
+    (x .8 .ensures)))))))
     (c .match .came)
 
 -- ---- it is noted
-sub-counts : tie.Need-sub-counts Inv-loop2 μ-loop2 Inv-loop μ-loop
+sub-counts : tie.Need-sub-counts Inv-loop2 μ-loop2 Inv-loop3 μ-loop3 Inv-loop4 μ-loop4 Inv-loop μ-loop
 sub-counts c =
     let x = c .before .before in
     let m = x .before .before .before .before in
@@ -214,7 +254,7 @@ sub-counts c =
       sent-more (i .before .loop .inv) (i .loop-test .taken) (e .before .if1 .left) (room-left e) (m .record-end .result) (made x),
     )
 
-cast-counts : tie.Need-cast-counts Inv-loop2 μ-loop2 Inv-loop μ-loop
+cast-counts : tie.Need-cast-counts Inv-loop2 μ-loop2 Inv-loop3 μ-loop3 Inv-loop4 μ-loop4 Inv-loop μ-loop
 cast-counts c =
     let x = c .before .before in
     let m = x .before .before .before .before in
@@ -226,10 +266,11 @@ cast-counts c =
     )
 
 -- where the record was reached
-abbrev reached : (c : tie.After-row-known Inv-loop2 μ-loop2 Inv-loop μ-loop) → tie.In-loop Inv-loop2 μ-loop2 Inv-loop μ-loop
+abbrev reached : (c : tie.After-row-known Inv-loop2 μ-loop2 Inv-loop3 μ-loop3 Inv-loop4 μ-loop4 Inv-loop μ-loop)
+    → tie.In-loop Inv-loop2 μ-loop2 Inv-loop3 μ-loop3 Inv-loop4 μ-loop4 Inv-loop μ-loop
 reached c = c .before .before .before .before .before .before .before .before .before
 
-loop-again : tie.Need-loop-again Inv-loop2 μ-loop2 Inv-loop μ-loop
+loop-again : tie.Need-loop-again Inv-loop2 μ-loop2 Inv-loop3 μ-loop3 Inv-loop4 μ-loop4 Inv-loop μ-loop
 loop-again c =
     let n = c .before in
     let x = n .before in
@@ -245,6 +286,10 @@ play-spec =
     (tie.spec
     Inv-loop2
     μ-loop2
+    Inv-loop3
+    μ-loop3
+    Inv-loop4
+    μ-loop4
     Inv-loop
     μ-loop
     (λ c κs. tt)
@@ -294,14 +339,38 @@ play-spec =
     loop2-again-2
     (λ c. c .match .keys4)
     (λ c κs. tt)
-    insert-requires
-    (λ c κs. tt)
+    loop3-holds
+    (λ c. omega (arith, opens-within c))
+    (λ c. omega (arith, opens-within c))
+    (λ c. omega (arith, opens-within (c .before)))
+    (λ c. omega (arith, opens-within (c .before)))
+    (λ c. omega (arith, opens-within (c .before)))
+    (λ c. omega (arith, opens-within (c .before)))
+    (λ c. omega (arith, opens-within (c .before)))
+    (λ c. omega (arith, c .before .loop3-test .taken))
+    loop3-again
+    (λ c. omega (arith, c .before .loop3 .inv .free))
     (λ c. c .match .keys5)
     (λ c. omega (arith, close-at (c .before)))
     (λ c. omega (arith, close-at (c .before)))
     any-open-requires
-    remove-requires
+    (λ c. omega (arith, loop4-holds c .within))
+    loop4-holds
+    (λ c. omega (arith, closes-within c))
+    (λ c. omega (arith, closes-within c))
+    (λ c. omega (arith, closes-within c))
+    (λ c. omega (arith, closes-within (c .before)))
+    (λ c. omega (arith, closes-within (c .before)))
+    (λ c. omega (arith, closes-within (c .before)))
+    (λ c. omega (arith, closes-within (c .before)))
+    (λ c. omega (arith, closes-within (c .before)))
+    (λ c. omega (arith, c .before .loop4-test .taken))
+    loop4-again
     (λ c κs. tt)
+    (λ c. omega (arith, c .before .before .loop4 .inv .tidy .few))
+    (λ c. omega (arith, c .before .before .loop4 .inv .tidy .few))
+    (λ c. omega (arith, c .before .before .loop4 .inv .tidy .few))
+    (λ c. omega (arith, c .before .before .loop4 .inv .tidy .few))
     (λ c κs. tt)
     (λ c. c .before .before .before .before .before .before .before .before .loop-test .taken)
     sub-counts

@@ -1,22 +1,13 @@
--- Whether the evaluation changes an order, by what the order says by itself; of one that it leaves, what each pass asks is not so. Assumes
--- nothing.
+-- An order that is due is one that the evaluation changes; of one that it leaves, what each pass asks is not so. Assumes nothing.
 use Prim.Native.Nat.{ℕ}
-use mathlib.Core.Path.{_≡_, refl, sym, _∙_}
+use mathlib.Core.Path.{_≡_, refl, sym}
 use mathlib.Core.List.{List}
-use mathlib.Core.Bool.{Bool, true, false, _&&_, _||_}
+use mathlib.Core.Bool.{Bool, true, false, _||_}
 use Rattle.lists.proofs.TestLaws.{or-left, or-right}
 use Rattle.days.specs.Window.{upTo}
 use Rattle.premise.specs.declared.Order.{Order}
-use Rattle.premise.specs.Orders.{permitPending, hasStatus}
-use Rattle.premise.specs.Evaluation.{isScheduledOrCancelPending, givesWay, isDisplaced, isOvertaken, isDue}
-use Rattle.premise_laws.specs.Changes.{mayChange}
+use Rattle.premise.specs.Evaluation.{givesWay, isDisplaced, isOvertaken, isDue}
 use Rattle.premise_laws.specs.Changes.{changesOrder}
-use Rattle.premise_laws.proofs.OtherPasses.{not-overtaken, far-gives-no-way, far-displaced, far-due}
-
--- ---- one of four tests
-only-third : (a b c d : Bool) → a ≡ false → b ≡ false → d ≡ false → c ≡ (a || b || c || d)
-only-third a b true d f g h = simp (f, g)
-only-third a b false d f g h = simp (f, g, h)
 
 or-last : (a b : Bool) → b ≡ true → true ≡ (a || b)
 or-last true b h = refl
@@ -34,21 +25,6 @@ module _ (today last agreement : ℕ) (os : List Order) (i : ℕ) (o : Order) wh
   unfolding changesOrder
   changes-due e =
       or-last (givesWay (upTo last) os i o || isDisplaced (upTo last) os o || isOvertaken today os o) (isDue (upTo last) agreement o) e
-
-  -- neither Scheduled nor Cancel Pending, or not in window: pass 3
-  changes-far : (isScheduledOrCancelPending o && upTo last (o .scheduled)) ≡ false
-      → isOvertaken today os o ≡ changesOrder today last agreement os i o
-  unfolding changesOrder
-  changes-far far =
-      only-third (givesWay (upTo last) os i o) (isDisplaced (upTo last) os o) (isOvertaken today os o) (isDue (upTo last) agreement o)
-      (far-gives-no-way (upTo last) os o far i) (far-displaced (upTo last) os o far) (far-due (upTo last) os o far agreement)
-
-  -- ---- what it says by itself
-  pub changes-not : mayChange last o ≡ false → changesOrder today last agreement os i o ≡ false
-  changes-not e =
-      let near = isScheduledOrCancelPending o && upTo last (o .scheduled) in
-      sym (changes-far (or-right (hasStatus permitPending o) near e))
-      ∙ not-overtaken today os o (or-left (hasStatus permitPending o) near e)
 
   -- ---- no pass
   pub let-be : changesOrder today last agreement os i o ≡ false → LetBe today last agreement os i o

@@ -7,7 +7,7 @@ use Rattle.premise.specs.declared.Order.{Order}
 use Rattle.premise.specs.Orders.{inReview, permitPending, cancelPending, hasStatus, scheduled, held}
 use Rattle.premise.specs.Clock.{mostWaited, reviewEnds, ticked}
 use Rattle.days.specs.Window.{upTo, LastInWindow}
-use Rattle.premise.specs.Evaluation.{isScheduledOrCancelPending, givesWay, isDisplaced, isOvertaken, isDue}
+use Rattle.premise.specs.Evaluation.{givesWay, isDisplaced, isOvertaken, isDue}
 use mathlib.Core.List.{List, [], _∷_}
 use mathlib.Core.Path.{_≡_}
 use Rattle.days.specs.Days.{isBusinessDay}
@@ -29,10 +29,6 @@ abbrev pub ClockChangesThese : Type 0
 ClockChangesThese =
     (business : Bool) (today premise : ℕ) (o : Order) → clockChanges business today o ≡ true → ticked business today premise o .order ≡ o
     → ⊥
-
--- Permit Pending, or Scheduled or Cancel Pending and in window.
-abbrev pub mayChange : ℕ → Order → Bool
-mayChange last o = hasStatus permitPending o || isScheduledOrCancelPending o && upTo last (o .scheduled)
 
 -- The evaluation changes the order at a place: it gives way in pass 1, is displaced in pass 2, overtaken in pass 3 or due in pass 4.
 unfoldable pub changesOrder : ℕ → ℕ → ℕ → List Order → ℕ → Order → Bool

@@ -13,7 +13,7 @@ pub const CALENDAR_BYTES: usize = 4_096;
 pub const TAPE_BYTES: usize = 65_520;
 
 // A stretch: at most so many records, the notice bytes of two calls, and room for the text of both with the end.
-const STRETCH_RECORDS: usize = 64;
+const STRETCH_RECORDS: usize = 256;
 
 const STRETCH_NOTICES: usize = 49_152;
 

@@ -28,7 +28,7 @@ endingMost = fileLineMost * mostFiles + totalLineMost
 
 -- a stretch plays at most so many records, with notice bytes for two calls; the most that their text takes, with the end
 abbrev pub stretchRecords : ℕ
-stretchRecords = 64
+stretchRecords = 256
 
 abbrev pub stretchNotices : ℕ
 stretchNotices = 2 * noticeBytes

@@ -17,7 +17,7 @@ long n h = rw (many n) h
 play-in-requires : tie.Need-play-in-requires
 play-in-requires c κs = (
   search needs,
-  (search needs, record { answers = many _; counts = long 64 (omega arith); notices = many _; text = long 147456 (omega arith) }),
+  (search needs, record { answers = many _; counts = long 256 (omega arith); notices = many _; text = long 147456 (omega arith) }),
 )
 
 pub play-by-spec : {M : Type 1} → statement M

@@ -258,15 +258,17 @@ as-many-as-find-room calendar b tape r answers₀ answers₁ notices₀ notices�
     let can = single-calls-can-be-made calendar b tape r answers₀ answers₁ notices₀ notices₁ p in
     let ns = can .0 in
     let s = can .1 in
+    let m = far .made in
+    let n = s .made in
     let is = stretch-is-single-calls calendar b tape r answers₀ answers₁ notices₀ notices₁ ns p s in
-    let fits : length ns ≤ length records = omega (arith, ap length (s .made .fed), length-take (length ns) records, made-many ns) in
+    let fits : length ns ≤ length records = omega (arith, ap length (n .fed), length-take (length ns) records, made-many ns) in
     let ends : (length ns ≡ length records) ⊎ (length (stillFree notices₀ ns) < noticeBytes) =
     go (ltb (length ns) (length records)) refl fits (is .stops taken) in
     omega (
       arith,
       s .many,
-      no-fewer calendar b notices₀ records ms ns (far .made .calls) (far .made .lent) (far .made .fed) (s .made .calls) (s .made .lent) (s .made .fed) (far .ends),
-      no-fewer calendar b notices₀ records ns ms (s .made .calls) (s .made .lent) (s .made .fed) (far .made .calls) (far .made .lent) (far .made .fed) ends,
+      no-fewer calendar b notices₀ records ms ns (m .calls) (m .lent) (m .fed) (n .calls) (n .lent) (n .fed) (far .ends),
+      no-fewer calendar b notices₀ records ns ms (n .calls) (n .lent) (n .fed) (m .calls) (m .lent) (m .fed) ends,
     )
   where
     made-many : (ms : List Made) → length (tapeOf ms) ≡ length ms

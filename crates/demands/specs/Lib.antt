@@ -3,17 +3,8 @@ pub mod CallsInRow
 pub mod Demand1
 pub mod Demand2
 pub mod Demand3
-pub mod EitherWidth
 pub mod Fleet
 pub mod LastDay
-pub mod Outcomes
 pub mod Rearranged
 pub mod Sample
-pub mod Shares
-pub mod SharesSample
 pub mod Tapes
-pub mod Waiting
-pub mod WaitingSample
-pub mod WidthSample
-pub mod WindowOfTwo
-pub mod WindowSample

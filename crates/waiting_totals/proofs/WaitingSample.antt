@@ -21,14 +21,14 @@ use Rattle.book.specs.Totals.{waitingIn}
 use Rattle.book.specs.Book.{bookOf, bookKeptBy, filesOf, freshBook, fileFor, putIn, takenOut}
 use Rattle.book.specs.Calls.{callRowsBy, callBy}
 use Rattle.book.specs.Promise.{Shown}
 use Rattle.demands.specs.Demand3.{lastBook}
 use Rattle.demands.specs.Sample.{lent, made, plays, calendar, create7, order7, tape, sample, shuffled, again}
-use Rattle.demands.specs.Waiting.{CountsOver}
-use Rattle.demands.specs.WaitingSample.{firstThree, scheduledOne, completeOne, dropOn, each, Comes}
-use Rattle.demands.specs.WaitingSample as waiting
+use Rattle.waiting_totals.specs.Waiting.{CountsOver}
+use Rattle.waiting_totals.specs.WaitingSample.{firstThree, scheduledOne, completeOne, dropOn, each, Comes}
+use Rattle.waiting_totals.specs.WaitingSample as waiting
 use Rattle.demands.proofs.ByDefinition.{promised, by-definition}
 use Rattle.demands.proofs.Sample.{shorts, agree-made}
-use Rattle.demands.proofs.Waiting.{totals-are-counts, shuffled-totals}
+use Rattle.waiting_totals.proofs.Waiting.{totals-are-counts, shuffled-totals}
 
 pub comes : Comes
 unfolding reviewed permitAwaited cancelAwaited ticked contends switchOfDay givesWay sameDaySwitch isDisplaced dropOnSwitchDay isOvertaken

@@ -23,12 +23,12 @@ use Rattle.premise.specs.OnePremise.{markedWith, stepWith, steppedWith}
 use Rattle.book.specs.Totals.{waitingIn}
 use Rattle.book.specs.Book.{bookOf, bookKeptBy, filesOf, freshBook, fileFor, putIn, takenOut}
 use Rattle.book.specs.Calls.{call, callRowsBy, callBy}
 use Rattle.demands.specs.Demand3.{Made, lastBook}
 use Rattle.demands.specs.Sample.{lent, made, plays}
 use Rattle.demands.specs.LastDay.{create7}
-use Rattle.demands.specs.SharesSample.{dropOf, beginning, tape, sample, third, dropped, file7, found, Comes}
+use Rattle.retailer_shares.specs.SharesSample.{dropOf, beginning, tape, sample, third, dropped, file7, found, Comes}
 use Rattle.demands.proofs.ByDefinition.{promised}
-use Rattle.demands.proofs.Shares.{no-retailer-fills, room-for-others}
+use Rattle.retailer_shares.proofs.Shares.{no-retailer-fills, room-for-others}
 
 pub comes : Comes
 unfolding reviewed permitAwaited cancelAwaited ticked contends switchOfDay givesWay sameDaySwitch isDisplaced dropOnSwitchDay isOvertaken

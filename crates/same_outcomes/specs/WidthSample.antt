@@ -10,10 +10,10 @@ use Rattle.premise.specs.Orders.{keptWidth}
 use Rattle.book.specs.declared.Book.{Book}
 use Rattle.book.specs.Book.{freshBook}
 use Rattle.book.specs.Calls.{callBy}
 use Rattle.demands.specs.Sample.{lent}
 use Rattle.demands.specs.LastDay.{plain}
-use Rattle.demands.specs.Outcomes.{Outcome, ToMake, outcomesBy}
-use Rattle.demands.specs.EitherWidth.{NoLongRetailer}
+use Rattle.same_outcomes.specs.Outcomes.{Outcome, ToMake, outcomesBy}
+use Rattle.same_outcomes.specs.EitherWidth.{NoLongRetailer}
 
 -- a record or a notice of premise 7 by its kind or code, detail, day and reference, and its bytes from 16 on
 abbrev bytesOf7 : ℕ → ℕ → ℕ → ℕ → List ℕ → List ℕ

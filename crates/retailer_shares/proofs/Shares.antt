@@ -27,9 +27,9 @@ use Rattle.book.proofs.Files.{found-each}
 use Rattle.book.proofs.SameFiles.{with-each}
 use Rattle.book.proofs.Kept.{holds-its-files, book-kept-means}
 use Rattle.book.proofs.Keeps.{keptOnes, found-kept, by-call}
 use Rattle.demands.specs.Demand3.{Made, Played, lastBook}
-use Rattle.demands.specs.Shares.{NoRetailerFills, RoomForOthers}
+use Rattle.retailer_shares.specs.Shares.{NoRetailerFills, RoomForOthers}
 use Rattle.demands.proofs.Demand1.{zero-where-no-row}
 
 -- ---- no retailer fills a stack
 module _ (calendar : List ℕ) (retailer : ℕ) where

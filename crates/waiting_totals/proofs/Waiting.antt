@@ -11,9 +11,9 @@ use Rattle.book.specs.Totals.{waitingIn}
 use Rattle.book.specs.Book.{filesOf, bookKept, freshBook}
 use Rattle.book.proofs.Kept.{book-kept-means, fresh-kept, totals-are}
 use Rattle.book.proofs.Keeps.{call-keeps}
 use Rattle.demands.specs.Demand3.{Made, Played, lastBook}
-use Rattle.demands.specs.Waiting.{CountsOver, TotalsAreCounts, ShuffledTotals}
+use Rattle.waiting_totals.specs.Waiting.{CountsOver, TotalsAreCounts, ShuffledTotals}
 use Rattle.demands.proofs.Demand3.{demand-3}
 
 last-kept : (calendar : List ℕ) (b : Book) (ms : List Made) → Played calendar b ms → bookKept b ≡ true → bookKept (lastBook b ms) ≡ true
 last-kept calendar b [] p k = k

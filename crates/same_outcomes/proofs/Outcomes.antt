@@ -4,7 +4,7 @@ use mathlib.Core.List.{List, [], _∷_}
 use Rattle.premise.specs.Orders.{keptWidth}
 use Rattle.premise.specs.Refusals.{number}
 use Rattle.book.specs.declared.Book.{Book}
-use Rattle.demands.specs.Outcomes.{Outcome, outcomesBy, asked, PromisedIsOutcome, PlayedIsOutcomes}
+use Rattle.same_outcomes.specs.Outcomes.{Outcome, outcomesBy, asked, PromisedIsOutcome, PlayedIsOutcomes}
 
 pub promised-is-outcome : PromisedIsOutcome
 promised-is-outcome layout calendar b bytes before r after p = λ i. record {

@@ -10,8 +10,8 @@ use Rattle.records.specs.Layout.{recordLength, wide, narrow, kindField, fieldOf
 use Rattle.records.specs.Records.{kindDateChange}
 use Rattle.premise.specs.Orders.{keptWidth}
 use Rattle.book.specs.Book.{freshBook}
 use Rattle.demands.specs.Demand3.{Made, Played, PlayedBy}
-use Rattle.demands.specs.Outcomes.{ToMake, outcomesBy, allReturned, asked}
+use Rattle.same_outcomes.specs.Outcomes.{ToMake, outcomesBy, allReturned, asked}
 
 -- ---- the premise
 -- A record's bytes with "zero in 20 to 23 and at most 999,999,999 in the retailer field". A date change has no retailer there: its counter,

@@ -34,9 +34,9 @@ use Rattle.book.proofs.Files.{found-each}
 use Rattle.book.proofs.SameFiles.{with-each}
 use Rattle.book.proofs.Kept.{holds-its-files, book-kept-by-either}
 use Rattle.book.proofs.RowsInOrder.{call-by-either}
-use Rattle.demands.specs.Outcomes.{Outcome, ToMake, outcomeOf, outcomeBy, outcomesBy, asked}
-use Rattle.demands.specs.EitherWidth.{NineDigits, NoLongRetailer, EitherWidth, MadeAsNarrow, MadeWithEither}
-use Rattle.demands.proofs.Outcomes.{played-is-outcomes}
+use Rattle.same_outcomes.specs.Outcomes.{Outcome, ToMake, outcomeOf, outcomeBy, outcomesBy, asked}
+use Rattle.same_outcomes.specs.EitherWidth.{NineDigits, NoLongRetailer, EitherWidth, MadeAsNarrow, MadeWithEither}
+use Rattle.same_outcomes.proofs.Outcomes.{played-is-outcomes}
 
 -- no retailer above the narrow limit, in files and in notices
 abbrev last : ℕ

@@ -8,10 +8,10 @@ use Rattle.records.specs.Notices.{rows}
 use Rattle.premise.specs.declared.File.{File}
 use Rattle.premise.specs.Orders.{keptWidth, always}
 use Rattle.book.specs.Book.{freshBook}
 use Rattle.demands.specs.Sample.{lent}
 use Rattle.demands.specs.LastDay.{plain, oneByte}
-use Rattle.demands.specs.Outcomes.{Outcome, ToMake}
-use Rattle.demands.specs.WindowOfTwo.{outcomesWith, NoCreateHasDetail}
+use Rattle.same_outcomes.specs.Outcomes.{Outcome, ToMake}
+use Rattle.same_outcomes.specs.WindowOfTwo.{outcomesWith, NoCreateHasDetail}
 
 -- a record with the shortest buffer that is taken
 unfoldable pub asking : List ℕ → ToMake

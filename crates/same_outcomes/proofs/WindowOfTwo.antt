@@ -36,9 +36,9 @@ use Rattle.book.specs.Calls.{noticeBytes, callRows, markedFiles, markedBook, on
 use Rattle.book.proofs.Files.{found-each}
 use Rattle.book.proofs.SameFiles.{with-each}
 use Rattle.book.proofs.Kept.{holds-its-files}
-use Rattle.demands.specs.Outcomes.{Outcome, ToMake, outcomeOf, asked}
-use Rattle.demands.specs.WindowOfTwo.{outcomeWith, outcomesWith, NoDetail, NoCreateHasDetail, WindowOfTwo, MadeAsOfTwo}
-use Rattle.demands.proofs.Outcomes.{played-is-outcomes}
+use Rattle.same_outcomes.specs.Outcomes.{Outcome, ToMake, outcomeOf, asked}
+use Rattle.same_outcomes.specs.WindowOfTwo.{outcomeWith, outcomesWith, NoDetail, NoCreateHasDetail, WindowOfTwo, MadeAsOfTwo}
+use Rattle.same_outcomes.proofs.Outcomes.{played-is-outcomes}
 
 -- every file has a window of 2
 abbrev AllTwo : List File → Type 0

@@ -16,8 +16,8 @@ use Rattle.premise.specs.Orders.{keptWidth, always}
 use Rattle.premise.specs.Steps.{is}
 use Rattle.book.specs.declared.Book.{Book}
 use Rattle.book.specs.Book.{freshBook}
 use Rattle.demands.specs.Demand3.{Made, Played}
-use Rattle.demands.specs.Outcomes.{Outcome, ToMake, outcomeBy, outcomesBy, allReturned, asked}
+use Rattle.same_outcomes.specs.Outcomes.{Outcome, ToMake, outcomeBy, outcomesBy, allReturned, asked}
 
 -- what comes of calls by the rules with a width for every file, and the layout in force
 abbrev pub outcomeWith : (File → ℕ) → List ℕ → Book → List ℕ → List ℕ → Outcome

@@ -23,7 +23,8 @@ use Rattle.book.specs.Totals.{waitingIn}
 use Rattle.book.specs.Book.{bookOf, bookKeptBy, fileFor, putIn, takenOut}
 use Rattle.book.specs.Calls.{callRowsBy, callBy}
 use Rattle.demands.specs.Sample.{lent}
-use Rattle.same_outcomes.specs.WidthSample.{asking, create, moveIn, redated, scheduled, established, shortMark, mark, tooLong, retireOf5}
+use Rattle.same_outcomes.specs.WidthSample.{asking, create, moveIn, redated, scheduled, established, shortMark}
+use Rattle.same_outcomes.specs.WidthSample.{mark, tooLong, retireOf5}
 use Rattle.same_outcomes.specs.WidthSample.{nineDigits, longSwitch, wideCounter, retireOfRest, moreDigits, outcomes, answers, told}
 use Rattle.same_outcomes.specs.WidthSample.{bookWith, marked, toldOfNine, toldOfMore, Comes, WidthTells, RestTells}
 use Rattle.same_outcomes.proofs.EitherWidth.{either-width}

@@ -15,7 +15,8 @@ use Rattle.demands.specs.Demand3.{Made, Played, lastBook}
 use Rattle.waiting_totals.specs.Waiting.{CountsOver, TotalsAreCounts, ShuffledTotals}
 use Rattle.demands.proofs.Demand3.{demand-3}
 
-last-kept : (calendar : List ℕ) (b : Book) (ms : List Made) → Played calendar b ms → bookKept b ≡ true → bookKept (lastBook b ms) ≡ true
+last-kept : (calendar : List ℕ) (b : Book) (ms : List Made) → Played calendar b ms → bookKept b ≡ true
+    → bookKept (lastBook b ms) ≡ true
 last-kept calendar b [] p k = k
 last-kept calendar b (m ∷ ms) p k =
     last-kept calendar (m .reply .book) ms (p .1) (ap bookKept (p .0 .book) ∙ call-keeps calendar b (m .bytes) (m .lent) k)

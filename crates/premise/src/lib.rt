@@ -37,22 +37,22 @@ pub struct BusinessDays(pub u8);
 // given business days.
 pub struct CalendarDays(pub u8);
 
-// An order.
+// An order. The widest fields come first, so that no bytes lie between them: an order is copied whole, and a copy of odd bytes takes longer.
 pub struct Order {
-    pub reference: u32,
-    pub kind: u8,
     // the submitting retailer, for a drop the gaining one
     pub submitter: u64,
+    // that of the last date change that was taken, 0 before the first; it has the type of the field that it comes from
+    pub counter: u64,
+    pub reference: u32,
     pub requested: u16,
     // the scheduled day, or no day
     pub scheduled: u16,
+    pub kind: u8,
     pub status: u8,
     pub waited: BusinessDays,
     pub pending: CalendarDays,
     // whether the retailer that loses the premise has been told, 0 or 1
     pub told: u8,
-    // that of the last date change that was taken, 0 before the first; it has the type of the field that it comes from
-    pub counter: u64,
 }
 
 // A premise's file. The first `count` places of `orders` hold its orders, oldest first; the others are zero.
@@ -60,12 +60,12 @@ pub struct File {
     pub premise: u64,
     // its retailer, 0 where the premise is de-energized
     pub retailer: u64,
+    // the retailer with which the owner has an agreement, 0 where there is none
+    pub agreement: u64,
     // the day since which the retailer holds
     pub since: u16,
     // how many business days before its scheduled day an order is in window
     pub window: u8,
-    // the retailer with which the owner has an agreement, 0 where there is none
-    pub agreement: u64,
     // 1 where the retailer came by a move in that was read on the day since which it holds, else 0
     pub entered: u8,
     pub count: usize,

@@ -10,8 +10,8 @@ use Rattle.demands.specs.Demand3.{Made}
 use Rattle.tape_output.specs.declared.Playing.{Playing}
 use Rattle.tape_output.specs.Output.{tapeMost}
 use Rattle.tape_output.specs.Stretches.{Ready, Roomy}
-use Rattle.call_row.specs.CallsMade.{CallsMade}
-use Rattle.call_row.proofs.CallsAreRow.{calls-are-row}
+use Rattle.call_row_rules.specs.CallsMade.{CallsMade}
+use Rattle.call_row_rules.proofs.CallsAreRow.{calls-are-row}
 
 -- Where there are as many counts as answers, as many records are played as there are answers.
 pub as-one-loop : (calendar lent tape : List ℕ) (p : Playing) (answers counts notices out : List ℕ)

@@ -23,9 +23,9 @@ use Rattle.book.proofs.Kept.{book-kept-means}
 use Rattle.book_player.proofs.Playing.{noted-length, noted-more, dropped}
 use Rattle.demands.specs.Demand3.{Made, Played, lastBook}
 use Rattle.demands.specs.Tapes.{tapeOf}
-use Rattle.call_row.specs.CallsMade.{numbersGiven, countsGiven, sentBy, bytesSent, lastGiven, Lent, CallsMade}
-use Rattle.call_row.proofs.OneMore.{calls-more, lent-more, tape-more, numbers-more, counts-more, sent-more, bytes-more}
-use Rattle.call_row.proofs.OneMore.{last-more, book-more}
+use Rattle.call_row_rules.specs.CallsMade.{numbersGiven, countsGiven, sentBy, bytesSent, lastGiven, Lent, CallsMade}
+use Rattle.call_row_rules.proofs.OneMore.{calls-more, lent-more, tape-more, numbers-more, counts-more, sent-more, bytes-more}
+use Rattle.call_row_rules.proofs.OneMore.{last-more, book-more}
 
 -- ---- a call's notices go into the shortest buffer that is taken, however long its own is
 few : (calendar : List ℕ) (b : Book) (bytes lent : List ℕ) → recordLength * length (call calendar b bytes lent .notices) ≤ noticeBytes

@@ -1,3 +1,1 @@
 pub mod Calling
-pub mod CallsAreRow
-pub mod OneMore

@@ -4,9 +4,10 @@ ghost use mathlib.Core.List.{List};
 ghost use lib.ListN.{length};
 ghost use Rattle.book.specs.CallsInRow.{recordsOf};
 ghost use Rattle.demands.specs.Demand3.{Made};
-ghost use Rattle.call_row.specs.CallsMade.{CallsMade};
+ghost use Rattle.call_row_rules.specs.CallsMade.{CallsMade};
 use book::Book;
 use book::Playback;
+use book::Reply;
 use premise::Answer;
 
 // Makes a record call for each record of a stretch, on the book that the one before returned and into the notice bytes still free: as many
@@ -24,11 +25,15 @@ pub fn calls_in_row(
         (now (answers .entry)) (now (answers .exit)) (now (counts .entry)) (now (counts .exit))
         (now (notices .entry)) (now (notices .exit)) made) ⌝ }
 {
-    let mut c = b;
+    // What the last call returned is the variable of the loop: a book of its own would be filled by one copy more a call.
+    let mut reply = Reply {
+        answer: Answer::Accepted,
+        sent: 0,
+        book: b,
+    };
     let mut played: usize = 0;
     let mut sent: usize = 0;
     let mut from: usize = 0;
-    let mut last = Answer::Accepted;
     while played < answers.len() {
         if counts.len() <= played {
             break;
@@ -41,19 +46,21 @@ pub fn calls_in_row(
             break;
         }
         let to = book_player::record_end(from, tape.len());
-        let reply = book_calls::record_call(calendar, c, &tape[from..to], &mut notices[standing..]);
-        last = reply.answer;
-        answers[played] = premise_rows::number_of(last);
+        let c = reply.book;
+        reply = book_calls::record_call(calendar, c, &tape[from..to], &mut notices[standing..]);
+        let answer = reply.answer;
+        answers[played] = premise_rows::number_of(answer);
         counts[played] = reply.sent as u16;
         sent += reply.sent;
-        c = reply.book;
         played += 1;
         from = to;
     }
+    let last = reply.answer;
+    let after = reply.book;
     Playback {
         played: played,
         sent: sent,
         last: last,
-        book: c,
+        book: after,
     }
 }

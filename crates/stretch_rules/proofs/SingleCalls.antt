@@ -23,7 +23,7 @@ use Rattle.book.proofs.NothingFree.{nothing-free}
 use Rattle.demands.specs.Demand3.{Made, Played, lastBook}
 use Rattle.demands.specs.Tapes.{tapeOf}
 use Rattle.demands.specs.CallsInRow.{noticeRows}
-use Rattle.call_row.specs.CallsMade.{numbersGiven, sentBy}
+use Rattle.call_row_rules.specs.CallsMade.{numbersGiven, sentBy}
 use Rattle.stretch_rules.specs.declared.StretchAnswer.the-variants.{Taken, FewAnswers}
 use Rattle.stretch_rules.specs.Stretch.{wholeCount, wholeRecords, Outcome, stretchCall}
 use Rattle.stretch_rules.specs.Stretch.{number as stretchNumber}

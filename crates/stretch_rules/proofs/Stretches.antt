@@ -24,7 +24,7 @@ use Rattle.demands.specs.CallsInRow.{noticeRows}
 use Rattle.demands.proofs.Callers.{none-answered-6}
 use Rattle.demands.proofs.Demand3.{demand-3}
 use Rattle.demands.proofs.Tapes.{own-of-made}
-use Rattle.call_row.specs.CallsMade.{numbersGiven}
+use Rattle.call_row_rules.specs.CallsMade.{numbersGiven}
 use Rattle.stretch_rules.specs.Stretch.{wholeCount, wholeRecords}
 use Rattle.stretch_rules.specs.SingleCalls.{behindOwn, EachLentRest}
 use Rattle.stretch_rules.specs.Stretches.{MadeStretch, PlayedStretches, bookAfter, recordsPlayed, answersGiven, noticesGiven}

@@ -12,7 +12,7 @@ use Rattle.book.specs.Calls.{noticeBytes}
 use Rattle.book.specs.CallsInRow.{Noted}
 use Rattle.demands.specs.Demand3.{Made, Played, lastBook}
 use Rattle.demands.specs.Tapes.{tapeOf}
-use Rattle.call_row.specs.CallsMade.{numbersGiven, sentBy}
+use Rattle.call_row_rules.specs.CallsMade.{numbersGiven, sentBy}
 use Rattle.stretch_rules.specs.declared.Replies.{Replies}
 use Rattle.stretch_rules.specs.Stretch.{number, wholeRecords, StretchPromised}
 

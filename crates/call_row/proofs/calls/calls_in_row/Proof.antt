@@ -1,6 +1,7 @@
 -- `calls_in_row` meets its contract. The loop's invariant: some calls are made and noted, and the records of the others follow; its measure
 -- is how many can still be noted. Of the record call it uses its promise and nothing else. Assumes nothing.
 use Prim.Native.Nat.{_+_, _*_, _-_, _≤_}
+use mathlib.Core.Logic.{⊎-elim}
 use native.Mathlib.Omega.{arith}
 use lib.ListN.{length}
 use Rattle.records.specs.Layout.{recordLength}
@@ -11,11 +12,11 @@ use Rattle.call_row.proofs.calls.calls_in_row.Statement.{statement}
 use Rattle.call_row.proofs.calls.calls_in_row.Tie as tie
 
 abbrev Inv-loop : tie.InvT-loop
-Inv-loop calendar tape answers₀ counts₀ notices₀ c₀ played₀ sent₀ from₀ last₀ answers counts notices c played sent from last =
-    Calling calendar tape c₀ answers₀ counts₀ notices₀ answers counts notices c played sent from last
+Inv-loop calendar tape answers₀ counts₀ notices₀ reply₀ played₀ sent₀ from₀ answers counts notices reply played sent from =
+    Calling calendar tape (reply₀ .book) answers₀ counts₀ notices₀ answers counts notices (reply .book) played sent from (reply .answer)
 
 abbrev μ-loop : tie.MeasureT-loop
-μ-loop calendar tape answers₀ counts₀ notices₀ c₀ played₀ sent₀ from₀ last₀ answers counts notices c played sent from last =
+μ-loop calendar tape answers₀ counts₀ notices₀ reply₀ played₀ sent₀ from₀ answers counts notices reply played sent from =
     length answers₀ - played
 
 loop-holds : tie.Need-loop-holds Inv-loop μ-loop
@@ -37,7 +38,7 @@ room-left e = omega (arith, e .if3 .left)
 -- ---- its call was made
 few : (y : tie.After-record-call Inv-loop μ-loop) → recordLength * y .record-call .result .sent ≤ noticeBytes
 few y =
-    let d = y .before .before .before in
+    let d = y .before .before .before .before in
     let e = d .before in
     let u = e .before in
     let v = u .before in
@@ -45,10 +46,10 @@ few y =
     (y .record-call .ensures)
 
 within : (y : tie.After-record-call Inv-loop μ-loop)
-    → recordLength * (at (y .before .before .before .before) .loop .sent + y .record-call .result .sent)
-    ≤ length (at (y .before .before .before .before) .loop .notices)
+    → recordLength * (at (y .before .before .before .before .before) .loop .sent + y .record-call .result .sent)
+    ≤ length (at (y .before .before .before .before .before) .loop .notices)
 within y =
-    let d = y .before .before .before in
+    let d = y .before .before .before .before in
     let e = d .before in
     let u = e .before in
     let v = u .before in
@@ -57,9 +58,9 @@ within y =
 
 loop-again : tie.Need-loop-again Inv-loop μ-loop
 loop-again c =
-    let n = c .before .before .before in
+    let n = c .before .before in
     let y = n .before .before .before in
-    let d = y .before .before .before in
+    let d = y .before .before .before .before in
     let e = d .before in
     let u = e .before in
     let v = u .before in
@@ -68,7 +69,16 @@ loop-again c =
 
 -- where it was known that the record's answer and count can be noted
 abbrev reached : (n : tie.After-number-of Inv-loop μ-loop) → tie.Else1 Inv-loop μ-loop
-reached n = n .before .before .before .before .before .before .before .before .before
+reached n = n .before .before .before .before .before .before .before .before .before .before
+
+-- the loop is left where no answer or no count can be noted any more, the tape is over, or the next might find no room
+returns : tie.Need-returns Inv-loop μ-loop
+returns c =
+    let i = c .before .before .loop .inv in
+    ⊎-elim (λ x. done-answers i (x .left))
+    (⊎-elim (λ x. done-counts i (x .1 .taken))
+    (⊎-elim (λ x. done-over i (x .2 .taken)) (λ x. done-room i (omega (arith, x .3 .taken)))))
+    (c .before .loop-test .came)
 
 pub calls-in-row-spec : {M : Type 1} → statement M
 calls-in-row-spec =
@@ -85,12 +95,12 @@ calls-in-row-spec =
     ))
     (λ c. omega (arith, sent-within (c .before .before .before .loop .inv)))
     (λ c κs. c .before .if2 .left)
-    (λ c. omega (arith, c .record-end .ensures, c .before .before .if2 .left))
-    (λ c. omega (arith, c .record-end .ensures, c .before .before .if2 .left))
-    (λ c. omega (arith, c .record-end .ensures, c .before .before .if2 .left))
-    (λ c. omega (arith, sent-within (at (c .before .before) .loop .inv)))
-    (λ c. omega (arith, sent-within (at (c .before .before) .loop .inv)))
-    (λ c. omega (arith, sent-within (at (c .before .before) .loop .inv)))
+    (λ c. omega (arith, c .before .record-end .ensures, c .before .before .before .if2 .left))
+    (λ c. omega (arith, c .before .record-end .ensures, c .before .before .before .if2 .left))
+    (λ c. omega (arith, c .before .record-end .ensures, c .before .before .before .if2 .left))
+    (λ c. omega (arith, sent-within (at (c .before .before .before) .loop .inv)))
+    (λ c. omega (arith, sent-within (at (c .before .before .before) .loop .inv)))
+    (λ c. omega (arith, sent-within (at (c .before .before .before) .loop .inv)))
     (λ c κs. tt)
     (λ c κs. tt)
     (λ c. omega (arith, reached c .before .loop-test .taken))
@@ -103,37 +113,25 @@ calls-in-row-spec =
     ))
     (λ c. omega (arith, reached (c .before) .if1 .left))
     (λ c. let y = c .before .before .before .before .before in
-    let l = at (y .before .before .before .before) in omega (
+    let l = at (y .before .before .before .before .before) in omega (
       arith,
       within y,
       notices-length (l .loop .inv),
       began l .good .1 .1 .1 .1 .1 .0 .0,
     ))
-    (λ c. let i = reached (c .before .before .before) .before in let l = i .before in omega (
+    (λ c. let i = reached (c .before .before) .before in let l = i .before in omega (
       arith,
       i .loop-test .taken,
       answers-length (l .loop .inv),
       began l .good .1 .1 .1 .0 .0,
     ))
-    (λ c. let i = reached (c .before .before .before) .before in omega (
+    (λ c. let i = reached (c .before .before) .before in omega (
       arith,
       i .loop-test .taken,
       answers-length (i .before .loop .inv),
     ))
     loop-again
-    (λ c. answers-length (c .before .loop .inv))
-    (λ c. counts-length (c .before .loop .inv))
-    (λ c. notices-length (c .before .loop .inv))
-    (λ c. done-answers (c .before .loop .inv) (c .loop-test .left))
     (λ c. answers-length (c .before .before .loop .inv))
     (λ c. counts-length (c .before .before .loop .inv))
     (λ c. notices-length (c .before .before .loop .inv))
-    (λ c. done-counts (c .before .before .loop .inv) (c .if1 .taken))
-    (λ c. answers-length (c .before .before .before .loop .inv))
-    (λ c. counts-length (c .before .before .before .loop .inv))
-    (λ c. notices-length (c .before .before .before .loop .inv))
-    (λ c. done-over (c .before .before .before .loop .inv) (c .if2 .taken))
-    (λ c. answers-length (c .before .before .before .before .loop .inv))
-    (λ c. counts-length (c .before .before .before .before .loop .inv))
-    (λ c. notices-length (c .before .before .before .before .loop .inv))
-    (λ c. done-room (c .before .before .before .before .loop .inv) (omega (arith, c .if3 .taken))))
+    returns)

@@ -20,8 +20,8 @@ use Rattle.book.specs.Promise.{Promised}
 use Rattle.book.proofs.CallsInRow.{called-lent, row-none, row-next, row-stops}
 use Rattle.demands.specs.Demand3.{Made, Played, lastBook}
 use Rattle.demands.specs.Tapes.{tapeOf}
-use Rattle.call_row.specs.CallsAreRow.{CallsAreRow}
-use Rattle.call_row.specs.CallsMade.{numbersGiven, countsGiven, sentBy, bytesSent, lastGiven, Lent}
+use Rattle.call_row_rules.specs.CallsAreRow.{CallsAreRow}
+use Rattle.call_row_rules.specs.CallsMade.{numbersGiven, countsGiven, sentBy, bytesSent, lastGiven, Lent}
 
 -- ---- one call
 module _ (calendar : List ℕ) (b : Book) (m : Made)

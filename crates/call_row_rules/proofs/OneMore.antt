@@ -13,7 +13,7 @@ use Rattle.book.specs.Calls.{noticeBytes}
 use Rattle.book.specs.Promise.{Promised}
 use Rattle.demands.specs.Demand3.{Made, Played, lastBook}
 use Rattle.demands.specs.Tapes.{tapeOf}
-use Rattle.call_row.specs.CallsMade.{numbersGiven, countsGiven, sentBy, bytesSent, lastGiven, Lent}
+use Rattle.call_row_rules.specs.CallsMade.{numbersGiven, countsGiven, sentBy, bytesSent, lastGiven, Lent}
 
 module _ (m : Made) where
   abbrev with : List Made → List Made

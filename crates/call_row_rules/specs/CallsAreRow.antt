@@ -7,7 +7,7 @@ use Rattle.book.specs.declared.Book.{Book}
 use Rattle.book.specs.declared.Playback.{Playback}
 use Rattle.book.specs.CallsInRow.{callsInRow, Plays}
 use Rattle.demands.specs.Demand3.{Made}
-use Rattle.call_row.specs.CallsMade.{CallsMade}
+use Rattle.call_row_rules.specs.CallsMade.{CallsMade}
 
 abbrev pub CallsAreRow : Type 0
 CallsAreRow =

@@ -1,0 +1,2 @@
+pub mod CallsAreRow
+pub mod OneMore

@@ -10,10 +10,10 @@ ghost use mathlib.Core.Path.{_≡_};
 ghost use Prim.Native.Nat.{_≤_};
 ghost use lib.ListN.{length};
 ghost use Rattle.convert.specs.Sizes.{mostIn, mostOut};
-use first_fittings::Answer;
-use first_fittings::Conversion;
-use first_fittings::OLD_LENGTH;
-use first_fittings::OUR_LENGTH;
+use first_fittings_rules::Answer;
+use first_fittings_rules::Conversion;
+use first_fittings_rules::OLD_LENGTH;
+use first_fittings_rules::OUR_LENGTH;
 
 // The longest tape that is taken, whole records of either size, and what it is converted to at most.
 const MOST_IN: usize = 1_048_560;

@@ -8,8 +8,8 @@ use lib.Dec.{eqb}
 use lib.ListN.{length, drop, getD}
 use Rattle.lists.specs.Search.{anyOf}
 use Rattle.lists.proofs.Find.{drop-first, drop-none}
-use Rattle.first_fittings.specs.Layout.{ourLength}
-use Rattle.first_fittings.specs.Conversions.{lastBytesUsed}
+use Rattle.first_fittings_rules.specs.Layout.{ourLength}
+use Rattle.first_fittings_rules.specs.Conversions.{lastBytesUsed}
 
 -- a byte that is not zero
 abbrev used : ℕ → Bool

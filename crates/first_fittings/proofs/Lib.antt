@@ -1,12 +1,5 @@
-pub mod Turned
 pub mod Places
 pub mod Turns
 pub mod Zeros
 pub mod LastBytes
-pub mod Tapes
-pub mod Ways
 pub mod Writing
-pub mod Answered
-pub mod ThereAndBack
-pub mod LosesNothing
-pub mod Sample

@@ -10,7 +10,7 @@ use lib.Seq.{drop-cons}
 use borrow.Author.Tests.{ltb-true}
 use Rattle.lists.specs.Search.{allOf}
 use Rattle.lists.proofs.SearchLaws.{each-of-all, each-at}
-use Rattle.first_fittings.specs.Layout.{oldLength, widths, turned, turnedRecord}
+use Rattle.first_fittings_rules.specs.Layout.{oldLength, widths, turned, turnedRecord}
 
 module _ (f : ℕ → ℕ) where
   map-take : (n : ℕ) (l : List ℕ) → map f (take n l) ≡ take n (map f l)

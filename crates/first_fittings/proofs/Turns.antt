@@ -6,8 +6,8 @@ use native.Mathlib.Omega.{arith}
 use lib.ListN.{length, drop, getD, set, length-append, length-set, List·getD-append}
 use lib.Seq.{drop-at}
 use Rattle.lists.proofs.Over.{over, over-start, over-set, over-end}
-use Rattle.first_fittings.specs.Layout.{oldLength, turnedRecord}
-use Rattle.first_fittings.proofs.Turned.{length-record}
+use Rattle.first_fittings_rules.specs.Layout.{oldLength, turnedRecord}
+use Rattle.first_fittings_rules.proofs.Turned.{length-record}
 use Rattle.first_fittings.proofs.Places.{places, turned-at}
 
 -- a buffer with a turned record at its front

@@ -7,10 +7,10 @@ use native.Mathlib.Numerals.{add-one}
 use native.Mathlib.Omega.{arith}
 use lib.ListN.{length, take, drop, length-append, length-drop, drop-of-length-le}
 use lib.Seq.{take-all, take-at, drop-at, drop-drop}
-use Rattle.first_fittings.specs.Layout.{cut, joined}
-use Rattle.first_fittings.specs.Conversions.{Way, converted}
-use Rattle.first_fittings.proofs.Tapes.{map-more, cut-more}
-use Rattle.first_fittings.proofs.Ways.{Into, part-length}
+use Rattle.first_fittings_rules.specs.Layout.{cut, joined}
+use Rattle.first_fittings_rules.specs.Conversions.{Way, converted}
+use Rattle.first_fittings_rules.proofs.Tapes.{map-more, cut-more}
+use Rattle.first_fittings_rules.proofs.Ways.{Into, part-length}
 
 -- what the first records of a tape become
 abbrev part : Way → List ℕ → ℕ → List ℕ

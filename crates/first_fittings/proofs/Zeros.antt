@@ -4,9 +4,9 @@ use mathlib.Core.Path.{_≡_, sym, ap, ap₂, _∙_}
 use mathlib.Core.List.{List, _++_}
 use lib.ListN.{length, take, drop, replicate}
 use lib.Seq.{sets, sets-eq, take-at, drop-at, drop-drop}
-use Rattle.first_fittings.specs.Layout.{oldLength, ourLength, turnedRecord}
-use Rattle.first_fittings.specs.Conversions.{to24}
-use Rattle.first_fittings.proofs.Turned.{length-record}
+use Rattle.first_fittings_rules.specs.Layout.{oldLength, ourLength, turnedRecord}
+use Rattle.first_fittings_rules.specs.Conversions.{to24}
+use Rattle.first_fittings_rules.proofs.Turned.{length-record}
 
 pub zeros-behind : (bytes before after : List ℕ) → oldLength ≤ length bytes → ourLength ≤ length after
     → after ≡ turnedRecord bytes ++ drop oldLength before

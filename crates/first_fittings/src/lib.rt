@@ -1,35 +1,17 @@
-// Change 9 of document 02: a converter each way between the first fittings' records of 20 bytes, each field high byte first, and ours of 24
-// bytes, low byte first. Neither call asks anything of its caller: every tape and every buffer is answered. Only lengths and the last
-// four bytes of our records are judged, so that a tape goes through whatever its records say.
+// Change 9 of document 02: the converter each way between the first fittings' records and ours, in code; its rules stand in
+// `first_fittings_rules`. Neither call asks anything of its caller: every tape and every buffer is answered.
 ghost use mathlib.Core.Path.{_≡_};
 ghost use mathlib.Core.List.{_++_};
 ghost use Prim.Native.Nat.{_*_, _/_, _≤_};
 ghost use lib.ListN.{length, drop};
 ghost use Rattle.lists.specs.Search.{anyOf};
-ghost use Rattle.first_fittings.specs.Layout.{oldLength, ourLength, turnedRecord, recordsOf};
-ghost use Rattle.first_fittings.specs.Answers.{number};
-ghost use Rattle.first_fittings.specs.Conversions.{to24, to20, lastBytesUsed, converted, Promised};
-
-pub enum Answer {
-    Converted,
-    // the input is no whole number of records
-    NotWhole,
-    // the output buffer is shorter than the converted tape
-    ShortBuffer,
-    // one of our records has a byte in 20 to 23 that is not zero
-    LastBytesUsed,
-}
-
-// What a call gives back: its answer, and how many bytes it wrote.
-pub struct Conversion {
-    pub answer: Answer,
-    pub written: usize,
-}
-
-// How many bytes a record has, with the first fittings and with us.
-pub const OLD_LENGTH: usize = 20;
-
-pub const OUR_LENGTH: usize = 24;
+ghost use Rattle.first_fittings_rules.specs.Layout.{oldLength, ourLength, turnedRecord, recordsOf};
+ghost use Rattle.first_fittings_rules.specs.Answers.{number};
+ghost use Rattle.first_fittings_rules.specs.Conversions.{to24, to20, lastBytesUsed, converted, Promised};
+use first_fittings_rules::Answer;
+use first_fittings_rules::Conversion;
+use first_fittings_rules::OLD_LENGTH;
+use first_fittings_rules::OUR_LENGTH;
 
 // Where each byte of a record comes from when its fields are turned; turned again they stand as before, so that it serves both ways.
 const PLACES: [usize; 20] = [

@@ -1,5 +1,5 @@
 -- `convert::converted`: what was written stands within the buffer, by the promise of either call. Assumes nothing.
-use Rattle.first_fittings.proofs.Answered.{written-within}
+use Rattle.first_fittings_rules.proofs.Answered.{written-within}
 use borrow.Author.Needs.{needs}
 use Rattle.convert.proofs.converted.Statement.{statement}
 use Rattle.convert.proofs.converted.Tie as tie

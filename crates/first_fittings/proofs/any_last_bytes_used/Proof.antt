@@ -5,9 +5,9 @@ use mathlib.Core.Path.{_≡_, sym, ap, _∙_}
 use borrow.Author.Needs.{needs}
 use Rattle.lists.specs.Search.{anyOf}
 use Rattle.lists.proofs.Find.{any-hit, any-next, any-end}
-use Rattle.first_fittings.specs.Layout.{ourLength, cut, recordsOf}
-use Rattle.first_fittings.specs.Conversions.{lastBytesUsed}
-use Rattle.first_fittings.proofs.Tapes.{left, left-all, left-first, left-none}
+use Rattle.first_fittings_rules.specs.Layout.{ourLength, cut, recordsOf}
+use Rattle.first_fittings_rules.specs.Conversions.{lastBytesUsed}
+use Rattle.first_fittings_rules.proofs.Tapes.{left, left-all, left-first, left-none}
 use Rattle.first_fittings.proofs.any_last_bytes_used.Statement.{statement}
 use Rattle.first_fittings.proofs.any_last_bytes_used.Tie as tie
 

@@ -1,7 +1,7 @@
 -- `first_fittings::number_of` meets its contract: each answer's number is the definition's. Assumes nothing.
 use mathlib.Core.Path.{sym, ap}
 use borrow.Author.Needs.{needs}
-use Rattle.first_fittings.specs.Answers.{number}
+use Rattle.first_fittings_rules.specs.Answers.{number}
 use Rattle.first_fittings.proofs.number_of.Statement.{statement}
 use Rattle.first_fittings.proofs.number_of.Tie as tie
 

@@ -2,11 +2,11 @@
 use mathlib.Core.Path.{refl, sym, _∙_}
 use native.Mathlib.Omega.{arith}
 use borrow.Author.Needs.{needs}
-use Rattle.first_fittings.specs.Layout.{oldLength}
-use Rattle.first_fittings.specs.Answers.{number}
-use Rattle.first_fittings.specs.Conversions.{to20}
-use Rattle.first_fittings.proofs.Ways.{into-old, converted-length}
-use Rattle.first_fittings.proofs.Answered.{refused, accepted, not-whole, too-short, last-bytes, converts}
+use Rattle.first_fittings_rules.specs.Layout.{oldLength}
+use Rattle.first_fittings_rules.specs.Answers.{number}
+use Rattle.first_fittings_rules.specs.Conversions.{to20}
+use Rattle.first_fittings_rules.proofs.Ways.{into-old, converted-length}
+use Rattle.first_fittings_rules.proofs.Answered.{refused, accepted, not-whole, too-short, last-bytes, converts}
 use Rattle.first_fittings.proofs.to_20.Statement.{statement}
 use Rattle.first_fittings.proofs.to_20.Tie as tie
 

@@ -2,11 +2,11 @@
 use mathlib.Core.Path.{refl, sym}
 use native.Mathlib.Omega.{arith}
 use borrow.Author.Needs.{needs}
-use Rattle.first_fittings.specs.Layout.{oldLength, ourLength, recordsOf}
-use Rattle.first_fittings.specs.Answers.{number}
-use Rattle.first_fittings.specs.Conversions.{to24}
-use Rattle.first_fittings.proofs.Ways.{into-ours, converted-length}
-use Rattle.first_fittings.proofs.Answered.{refused, accepted, not-whole, too-short, converts, none-barred}
+use Rattle.first_fittings_rules.specs.Layout.{oldLength, ourLength, recordsOf}
+use Rattle.first_fittings_rules.specs.Answers.{number}
+use Rattle.first_fittings_rules.specs.Conversions.{to24}
+use Rattle.first_fittings_rules.proofs.Ways.{into-ours, converted-length}
+use Rattle.first_fittings_rules.proofs.Answered.{refused, accepted, not-whole, too-short, converts, none-barred}
 use Rattle.first_fittings.proofs.to_24.Statement.{statement}
 use Rattle.first_fittings.proofs.to_24.Tie as tie
 

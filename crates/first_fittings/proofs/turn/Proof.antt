@@ -3,7 +3,7 @@
 use Prim.Native.Nat.{_-_}
 use native.Mathlib.Omega.{arith}
 use borrow.Author.Needs.{needs}
-use Rattle.first_fittings.specs.Layout.{oldLength}
+use Rattle.first_fittings_rules.specs.Layout.{oldLength}
 use Rattle.first_fittings.proofs.Places.{place-below}
 use Rattle.first_fittings.proofs.Turns.{Turning, turning-start, turning-more, turning-end}
 use Rattle.first_fittings.proofs.turn.Statement.{statement}

@@ -3,9 +3,9 @@
 use Prim.Native.Nat.{_-_}
 use borrow.Author.Needs.{needs}
 use native.Mathlib.Omega.{arith}
-use Rattle.first_fittings.specs.Layout.{oldLength}
-use Rattle.first_fittings.specs.Conversions.{to20}
-use Rattle.first_fittings.proofs.Ways.{into-old}
+use Rattle.first_fittings_rules.specs.Layout.{oldLength}
+use Rattle.first_fittings_rules.specs.Conversions.{to20}
+use Rattle.first_fittings_rules.proofs.Ways.{into-old}
 use Rattle.first_fittings.proofs.Writing.{Writing, writing-start, writing-more, writing-end}
 use Rattle.first_fittings.proofs.write_all_old.Statement.{statement}
 use Rattle.first_fittings.proofs.write_all_old.Tie as tie

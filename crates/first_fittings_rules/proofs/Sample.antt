@@ -1,10 +1,10 @@
 -- Change 9's sample and a case for each answer: computed. Assumes nothing.
 use mathlib.Core.Path.{_≡_, refl}
 use mathlib.Core.Bool.{true}
-use Rattle.first_fittings.specs.Layout.{turnedRecord}
-use Rattle.first_fittings.specs.Answers.{number}
-use Rattle.first_fittings.specs.Conversions.{converted, rows, answer, given}
-use Rattle.first_fittings.specs.Sample.{SampleHolds, pieces, allHold}
+use Rattle.first_fittings_rules.specs.Layout.{turnedRecord}
+use Rattle.first_fittings_rules.specs.Answers.{number}
+use Rattle.first_fittings_rules.specs.Conversions.{converted, rows, answer, given}
+use Rattle.first_fittings_rules.specs.Sample.{SampleHolds, pieces, allHold}
 
 pub sample : SampleHolds
 unfolding turnedRecord number converted rows answer given

@@ -8,7 +8,7 @@ use native.Mathlib.Omega.{arith}
 use lib.ListN.{length, take, drop, length-append, length-drop, take-append-drop}
 use lib.Seq.{length-take-le, drop-drop, take-at, drop-at}
 use Rattle.lists.specs.Search.{Each}
-use Rattle.first_fittings.specs.Layout.{cut, joined}
+use Rattle.first_fittings_rules.specs.Layout.{cut, joined}
 
 -- every record has a size
 abbrev pub Sized : ℕ → List (List ℕ) → Type 0

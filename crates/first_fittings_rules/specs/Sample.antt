@@ -5,11 +5,11 @@ use mathlib.Core.List.{List, [], _∷_, _++_}
 use mathlib.Core.Bool.{Bool, true, false, _&&_}
 use lib.Dec.{eqb}
 use lib.ListN.{take, replicate}
-use Rattle.first_fittings.specs.declared.Answer.the-variants.{Converted}
-use Rattle.first_fittings.specs.Layout.{oldLength, widths, highFirst, lowFirst, numbers}
-use Rattle.first_fittings.specs.Answers.{number}
-use Rattle.first_fittings.specs.Conversions.{Way, to24, to20, answer, given}
-use Rattle.first_fittings.specs.ThereAndBack.{Made, Accepted, wrote}
+use Rattle.first_fittings_rules.specs.declared.Answer.the-variants.{Converted}
+use Rattle.first_fittings_rules.specs.Layout.{oldLength, widths, highFirst, lowFirst, numbers}
+use Rattle.first_fittings_rules.specs.Answers.{number}
+use Rattle.first_fittings_rules.specs.Conversions.{Way, to24, to20, answer, given}
+use Rattle.first_fittings_rules.specs.ThereAndBack.{Made, Accepted, wrote}
 
 -- ---- the sample
 -- A new order, kind 3: detail 4, day 258, F 16909060, P of eight different bytes, retailer 67305985; a read, kind 7.

@@ -11,15 +11,15 @@ use lib.Seq.{take-at}
 use borrow.Author.Tests.{eqb-true, not-false, eq-eqb, le-ltb}
 use Rattle.lists.specs.Search.{anyOf}
 use Rattle.lists.proofs.TestLaws.{or-left, or-right}
-use Rattle.first_fittings.specs.declared.Answer.{Answer}
-use Rattle.first_fittings.specs.declared.Answer.the-variants.{Converted, NotWhole, ShortBuffer, LastBytesUsed}
-use Rattle.first_fittings.specs.Layout.{cut, recordsOf, joined}
-use Rattle.first_fittings.specs.Answers.{number}
-use Rattle.first_fittings.specs.Conversions.{Way, converted, answer, given}
-use Rattle.first_fittings.specs.ThereAndBack.{Made, Call, Accepted, wrote, GivesBack, WantsRoomOnly, ThereAndBack, KeepsApart}
-use Rattle.first_fittings.proofs.Tapes.{Sized, cut-sized, cut-length, joined-cut, cut-joined}
-use Rattle.first_fittings.proofs.Ways.{Into, becomes-sized, converted-length}
-use Rattle.first_fittings.proofs.Answered.{isPart, isShort, isUsed, byTests, answer-by, given-by}
+use Rattle.first_fittings_rules.specs.declared.Answer.{Answer}
+use Rattle.first_fittings_rules.specs.declared.Answer.the-variants.{Converted, NotWhole, ShortBuffer, LastBytesUsed}
+use Rattle.first_fittings_rules.specs.Layout.{cut, recordsOf, joined}
+use Rattle.first_fittings_rules.specs.Answers.{number}
+use Rattle.first_fittings_rules.specs.Conversions.{Way, converted, answer, given}
+use Rattle.first_fittings_rules.specs.ThereAndBack.{Made, Call, Accepted, wrote, GivesBack, WantsRoomOnly, ThereAndBack, KeepsApart}
+use Rattle.first_fittings_rules.proofs.Tapes.{Sized, cut-sized, cut-length, joined-cut, cut-joined}
+use Rattle.first_fittings_rules.proofs.Ways.{Into, becomes-sized, converted-length}
+use Rattle.first_fittings_rules.proofs.Answered.{isPart, isShort, isUsed, byTests, answer-by, given-by}
 
 -- ---- a call that was not refused
 only-converted : (a : Answer) → number a ≡ 0 → a ≡ Converted

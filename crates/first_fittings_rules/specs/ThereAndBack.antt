@@ -6,10 +6,10 @@ use mathlib.Core.List.{List}
 use mathlib.Core.Bool.{cond}
 use lib.Dec.{ltb}
 use lib.ListN.{length, take}
-use Rattle.first_fittings.specs.declared.Conversion.{Conversion}
-use Rattle.first_fittings.specs.Layout.{total, turned, lowFirst, highFirst, numbers}
-use Rattle.first_fittings.specs.Answers.{number}
-use Rattle.first_fittings.specs.Conversions.{Way, to24, to20, Promised}
+use Rattle.first_fittings_rules.specs.declared.Conversion.{Conversion}
+use Rattle.first_fittings_rules.specs.Layout.{total, turned, lowFirst, highFirst, numbers}
+use Rattle.first_fittings_rules.specs.Answers.{number}
+use Rattle.first_fittings_rules.specs.Conversions.{Way, to24, to20, Promised}
 
 -- The law below both ways, for any fields: bytes turned field by field and turned again are the bytes.
 abbrev pub TurnedTwice : Type 0

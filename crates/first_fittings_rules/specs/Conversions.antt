@@ -6,11 +6,11 @@ use mathlib.Core.Bool.{Bool, false, cond, not}
 use lib.Dec.{eqb, ltb}
 use lib.ListN.{length, drop, replicate}
 use Rattle.lists.specs.Search.{anyOf}
-use Rattle.first_fittings.specs.declared.Conversion.{Conversion}
-use Rattle.first_fittings.specs.declared.Answer.{Answer}
-use Rattle.first_fittings.specs.declared.Answer.the-variants.{NotWhole, ShortBuffer, LastBytesUsed}
-use Rattle.first_fittings.specs.Layout.{oldLength, ourLength, turnedRecord, recordsOf, joined}
-use Rattle.first_fittings.specs.Answers.{Row, row, firstRow, number}
+use Rattle.first_fittings_rules.specs.declared.Conversion.{Conversion}
+use Rattle.first_fittings_rules.specs.declared.Answer.{Answer}
+use Rattle.first_fittings_rules.specs.declared.Answer.the-variants.{NotWhole, ShortBuffer, LastBytesUsed}
+use Rattle.first_fittings_rules.specs.Layout.{oldLength, ourLength, turnedRecord, recordsOf, joined}
+use Rattle.first_fittings_rules.specs.Answers.{Row, row, firstRow, number}
 
 -- a way to convert: how long the records are that come in, what becomes of one, and whether it keeps the tape from being converted
 pub record Way : Type 0 where

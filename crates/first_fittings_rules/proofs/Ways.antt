@@ -5,10 +5,10 @@ use mathlib.Core.List.{List, [], _∷_, map}
 use native.Mathlib.Nat.{mul-div-le}
 use native.Mathlib.Omega.{arith}
 use lib.ListN.{length, length-append, length-map}
-use Rattle.first_fittings.specs.Layout.{oldLength, ourLength, turnedRecord, cut, joined}
-use Rattle.first_fittings.specs.Conversions.{Way, to24, to20, converted}
-use Rattle.first_fittings.proofs.Turned.{length-record}
-use Rattle.first_fittings.proofs.Tapes.{Sized, cut-sized, cut-length, joined-length}
+use Rattle.first_fittings_rules.specs.Layout.{oldLength, ourLength, turnedRecord, cut, joined}
+use Rattle.first_fittings_rules.specs.Conversions.{Way, to24, to20, converted}
+use Rattle.first_fittings_rules.proofs.Turned.{length-record}
+use Rattle.first_fittings_rules.proofs.Tapes.{Sized, cut-sized, cut-length, joined-length}
 
 -- a record that comes in becomes one of so many bytes
 abbrev pub Into : Way → ℕ → Type 0

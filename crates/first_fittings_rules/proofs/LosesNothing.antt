@@ -10,12 +10,12 @@ use lib.Seq.{length-take-le, take-at, drop-at, take-all}
 use borrow.Author.Tests.{eqb-true, not-false}
 use Rattle.lists.specs.Search.{anyOf}
 use Rattle.lists.proofs.TestLaws.{or-left, or-right}
-use Rattle.first_fittings.specs.Layout.{oldLength, widths, turned, turnedRecord}
-use Rattle.first_fittings.specs.Conversions.{to24, to20}
-use Rattle.first_fittings.specs.ThereAndBack.{ThereAndBack, LosesNothing}
-use Rattle.first_fittings.proofs.Turned.{turned-twice, length-record}
-use Rattle.first_fittings.proofs.Ways.{into-ours, into-old}
-use Rattle.first_fittings.proofs.ThereAndBack.{Undoes, there-and-back, keeps-apart}
+use Rattle.first_fittings_rules.specs.Layout.{oldLength, widths, turned, turnedRecord}
+use Rattle.first_fittings_rules.specs.Conversions.{to24, to20}
+use Rattle.first_fittings_rules.specs.ThereAndBack.{ThereAndBack, LosesNothing}
+use Rattle.first_fittings_rules.proofs.Turned.{turned-twice, length-record}
+use Rattle.first_fittings_rules.proofs.Ways.{into-ours, into-old}
+use Rattle.first_fittings_rules.proofs.ThereAndBack.{Undoes, there-and-back, keeps-apart}
 
 -- bytes 0 to 19 turned twice, whatever stands behind them
 record-twice : (bytes behind : List ℕ) → oldLength ≤ length bytes → turnedRecord (turnedRecord bytes ++ behind) ≡ take oldLength bytes

@@ -5,8 +5,8 @@ use mathlib.Core.List.{List, [], _∷_, _++_, reverse, reverse-cons, reverse-rev
 use native.Mathlib.Omega.{arith}
 use lib.ListN.{length, take, drop, length-append, length-drop, length-reverse, take-append-drop}
 use lib.Seq.{length-take-le, take-at, drop-at}
-use Rattle.first_fittings.specs.Layout.{oldLength, widths, total, turned, lowFirst, highFrom, highFirst, numbers, turnedRecord}
-use Rattle.first_fittings.specs.ThereAndBack.{TurnedTwice, SameNumbers}
+use Rattle.first_fittings_rules.specs.Layout.{oldLength, widths, total, turned, lowFirst, highFrom, highFirst, numbers, turnedRecord}
+use Rattle.first_fittings_rules.specs.ThereAndBack.{TurnedTwice, SameNumbers}
 
 -- a first field and the others
 module _ (width : ℕ) (others bytes : List ℕ) (e : length bytes ≡ width + total others) where

@@ -9,13 +9,13 @@ use lib.Dec.{eqb, ltb}
 use lib.ListN.{length, drop, length-append}
 use borrow.Author.Tests.{eq-eqb, ne-eqb, lt-ltb, le-ltb}
 use Rattle.lists.specs.Search.{anyOf}
-use Rattle.first_fittings.specs.declared.Conversion.{Conversion}
-use Rattle.first_fittings.specs.declared.Answer.{Answer}
-use Rattle.first_fittings.specs.declared.Answer.the-variants.{Converted, NotWhole, ShortBuffer, LastBytesUsed}
-use Rattle.first_fittings.specs.Layout.{recordsOf}
-use Rattle.first_fittings.specs.Answers.{number, row, firstRow}
-use Rattle.first_fittings.specs.Conversions.{Way, to24, converted, rows, answer, given, Promised}
-use Rattle.first_fittings.proofs.Ways.{Into, converted-length}
+use Rattle.first_fittings_rules.specs.declared.Conversion.{Conversion}
+use Rattle.first_fittings_rules.specs.declared.Answer.{Answer}
+use Rattle.first_fittings_rules.specs.declared.Answer.the-variants.{Converted, NotWhole, ShortBuffer, LastBytesUsed}
+use Rattle.first_fittings_rules.specs.Layout.{recordsOf}
+use Rattle.first_fittings_rules.specs.Answers.{number, row, firstRow}
+use Rattle.first_fittings_rules.specs.Conversions.{Way, to24, converted, rows, answer, given, Promised}
+use Rattle.first_fittings_rules.proofs.Ways.{Into, converted-length}
 
 -- the three tests
 abbrev pub isPart : Way → List ℕ → Bool

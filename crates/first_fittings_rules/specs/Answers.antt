@@ -2,8 +2,8 @@
 use Prim.Native.Nat.{ℕ}
 use mathlib.Core.List.{List, [], _∷_}
 use mathlib.Core.Bool.{Bool, cond}
-use Rattle.first_fittings.specs.declared.Answer.{Answer}
-use Rattle.first_fittings.specs.declared.Answer.the-variants.{Converted, NotWhole, ShortBuffer, LastBytesUsed}
+use Rattle.first_fittings_rules.specs.declared.Answer.{Answer}
+use Rattle.first_fittings_rules.specs.declared.Answer.the-variants.{Converted, NotWhole, ShortBuffer, LastBytesUsed}
 
 -- The number returned, for every answer.
 unfoldable pub number : Answer → ℕ

@@ -34,11 +34,11 @@ use Rattle.demands.specs.Tapes.{ownOf}
 use Rattle.demands.specs.Sample.{create7, create5, order7, order5, scheduled7, scheduled5, mark1, calendar}
 use Rattle.demands.proofs.ByDefinition.{byteTest, are-bytes}
 use Rattle.demands.proofs.Tapes.{Marked, keptOf, own-marked}
 use Rattle.stretch_rules.specs.Stretch.{joined, wholeRecords, stretchCall}
 use Rattle.stretch_rules.specs.Stretches.{MadeStretch, PlayedStretches, recordsPlayed, answersGiven, FromFresh}
-use Rattle.stretch_rules.specs.Samples.{sample, ten, noticesLent, madeStretch, stretches, first, second, whole, cut}
-use Rattle.stretch_rules.specs.Samples.{wholeAnswers, cutAnswers, Shuffled}
+use Rattle.stretch_samples.specs.Samples.{sample, ten, noticesLent, madeStretch, stretches, first, second, whole, cut}
+use Rattle.stretch_samples.specs.Samples.{wholeAnswers, cutAnswers, Shuffled}
 use Rattle.stretch_rules.proofs.Stretches.{stretches-shuffled}
 
 -- each is made by the definition of the call
 made : (b : Book) (tapes : List (List ℕ)) → PlayedStretches calendar b (stretches b tapes)

@@ -22,9 +22,9 @@ use Rattle.book.specs.Calls.{callRowsBy, callBy}
 use Rattle.book.specs.CallsInRow.{callsInRow}
 use Rattle.demands.specs.Sample.{lent, made, plays, create7, create5, order7, order5, scheduled7, scheduled5, mark1, malformed, calendar}
 use Rattle.demands.specs.Sample.{ordered7, ordered5, dated7, dated5, losing7, losing5}
 use Rattle.stretch_rules.specs.Stretch.{wholeRecords, stretchCall}
 use Rattle.stretch_rules.specs.Stretch.{number as stretchNumber}
-use Rattle.stretch_rules.specs.Samples.{allHold, Books}
+use Rattle.stretch_samples.specs.Samples.{allHold, Books}
 
 pub samples : allHold ≡ true
 unfolding reviewed permitAwaited cancelAwaited ticked contends switchOfDay givesWay sameDaySwitch isDisplaced dropOnSwitchDay isOvertaken

@@ -6,7 +6,6 @@ pub mod Demand1
 pub mod Demand2
 pub mod Demand3
 pub mod Fleet
-pub mod LastDay
 pub mod OnWay
 pub mod OneCall
 pub mod Picks

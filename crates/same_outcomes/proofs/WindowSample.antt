@@ -24,7 +24,7 @@ use Rattle.book.specs.Totals.{waitingIn}
 use Rattle.book.specs.Book.{bookOf, bookKeptBy, fileFor, putIn, takenOut}
 use Rattle.book.specs.Calls.{callRowsBy, callBy}
 use Rattle.demands.specs.Sample.{lent}
-use Rattle.demands.specs.LastDay.{oneByte}
+use Rattle.last_day.specs.LastDay.{oneByte}
 use Rattle.same_outcomes.specs.WindowSample.{asking, create, switch, scheduled, mark, shortMark, oneAlone, withDetail0, withDetail5}
 use Rattle.same_outcomes.specs.WindowSample.{outcomes, answers, told, announced, dated, losing, Comes, DetailTells}
 use Rattle.same_outcomes.proofs.WindowOfTwo.{window-of-two}

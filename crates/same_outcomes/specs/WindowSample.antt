@@ -9,7 +9,7 @@ use Rattle.premise.specs.declared.File.{File}
 use Rattle.premise.specs.Orders.{keptWidth, always}
 use Rattle.book.specs.Book.{freshBook}
 use Rattle.demands.specs.Sample.{lent}
-use Rattle.demands.specs.LastDay.{plain, oneByte}
+use Rattle.last_day.specs.LastDay.{plain, oneByte}
 use Rattle.same_outcomes.specs.Outcomes.{Outcome, ToMake}
 use Rattle.same_outcomes.specs.WindowOfTwo.{outcomesWith, NoCreateHasDetail}
 

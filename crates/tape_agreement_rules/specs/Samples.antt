@@ -11,7 +11,7 @@ use Rattle.premise.specs.Refusals.{number}
 use Rattle.book.specs.Book.{filesOf, freshBook}
 use Rattle.demands.specs.Demand3.{Made, lastBook, SameBooks}
 use Rattle.demands.specs.Sample.{plays, create7, create5, order7, order5, scheduled7, scheduled5, mark1, malformed, calendar}
-use Rattle.demands.specs.LastDay.{plain}
+use Rattle.last_day.specs.LastDay.{plain}
 use Rattle.tape_agreement_rules.specs.declared.Agreement.the-variants.{Same}
 use Rattle.tape_agreement_rules.specs.Agreement.{saysYes, numberGiven, agreement, Compared}
 

@@ -6,7 +6,7 @@ use Rattle.book.specs.declared.Waiting.{Waiting}
 use Rattle.book.specs.Book.{freshBook}
 use Rattle.demands.specs.Demand3.{Made, lastBook}
 use Rattle.demands.specs.Sample.{plays, calendar, create7, order7}
-use Rattle.demands.specs.LastDay.{plain}
+use Rattle.last_day.specs.LastDay.{plain}
 
 -- In Review, Permit Pending, Scheduled, Cancel Pending
 abbrev pub four : ℕ → ℕ → ℕ → ℕ → Waiting

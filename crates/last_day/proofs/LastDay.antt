@@ -28,19 +28,19 @@ use Rattle.book.specs.declared.Book.{Book}
 use Rattle.book.specs.Totals.{waitingIn}
 use Rattle.book.specs.Book.{freshBook, bookOf, bookKeptBy, fileFor, putIn, takenOut}
 use Rattle.book.specs.Calls.{noticeBytes, callRowsBy, callBy}
 use Rattle.demands.specs.Demand3.{Made, Played, lastBook, Premise, records, withPremise, noticesFor, ruledNotices}
 use Rattle.demands.specs.Sample.{lent, made, plays}
 use Rattle.demands.specs.Tapes.{Plays, tapeOf, ownOf}
 use Rattle.demands.specs.Rearranged.{NobodySees}
-use Rattle.demands.specs.LastDay.{create7, create5, switch7, switch5, scheduled7, scheduled5, mark, retire6, oneByte}
-use Rattle.demands.specs.LastDay.{notices7, notices5, switchOf, fileOf, Call, OneByOne, bookAfter, rowsOf, naming, OnTheLastDay}
-use Rattle.demands.specs.LastDay.{tape, answers₁}
-use Rattle.demands.specs.LastDay.{tape₂, answers₂, tape₃, answers₃, LastDay}
+use Rattle.last_day.specs.LastDay.{create7, create5, switch7, switch5, scheduled7, scheduled5, mark, retire6, oneByte}
+use Rattle.last_day.specs.LastDay.{notices7, notices5, switchOf, fileOf, Call, OneByOne, bookAfter, rowsOf, naming, OnTheLastDay}
+use Rattle.last_day.specs.LastDay.{tape, answers₁}
+use Rattle.last_day.specs.LastDay.{tape₂, answers₂, tape₃, answers₃, LastDay}
 use Rattle.demands.proofs.Picks.{pick-append}
 use Rattle.demands.proofs.ByDefinition.{Short, short-plays, by-definition}
 use Rattle.demands.proofs.Tapes.{Marked, keptOf, own-marked, plays-ruled}
 use Rattle.demands.proofs.Rearranged.{nobody-sees}
 use Rattle.demands.proofs.Callers.{buffers-dont-count}
 
 -- ---- the tapes, computed: what the premises and the calls played by definition come to
 record Computed (tape : List (List ℕ)) (answered : List ℕ) : Type 0 where

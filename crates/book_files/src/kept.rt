@@ -2,7 +2,6 @@
 ghost use mathlib.Core.Path.{_≡_};
 ghost use Rattle.book.specs.Book.{bookKept};
 use book::Book;
-use book::Waiting;
 
 // Whether a book is well kept. Every book is answered, whatever its fields hold. (Two loops in one function: a call would copy the book.)
 // The waiting orders are added up file by file: the test of each counts them on its way.
@@ -16,35 +15,26 @@ pub fn book_kept(b: Book) -> bool
     if book::MOST_FILES < n {
         return false;
     }
-    let mut review: u16 = 0;
-    let mut permit: u16 = 0;
-    let mut scheduled: u16 = 0;
-    let mut cancel: u16 = 0;
+    let mut waiting: u64 = 0;
     let mut last: u64 = 0;
     let mut i: usize = 0;
     'held: while i < n {
-        let f = b.files[i];
-        if f.premise <= last {
+        // read by itself before the file is copied: a copy of which a field is compared first is made from an odd place on
+        let premise = b.files[i].premise;
+        if premise <= last {
             return false;
         }
+        let f = b.files[i];
         let test = premise_kept::file_kept(f);
         if !test.kept {
             return false;
         }
-        review += test.review;
-        permit += test.permit;
-        scheduled += test.scheduled;
-        cancel += test.cancel;
-        last = f.premise;
+        waiting += test.waiting;
+        last = premise;
         i += 1;
     }
-    let totals = Waiting {
-        review: review,
-        permit: permit,
-        scheduled: scheduled,
-        cancel: cancel,
-    };
-    if !crate::waiting::same(b.waiting, totals) {
+    let w = b.waiting;
+    if premise_kept::packed(w.review, w.permit, w.scheduled, w.cancel) != waiting {
         return false;
     }
     'unused: while i < book::MOST_FILES {

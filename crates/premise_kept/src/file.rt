@@ -3,13 +3,10 @@ ghost use mathlib.Core.Path.{_≡_};
 ghost use Rattle.premise_kept.specs.Test.{refused, fileTest};
 use premise::File;
 
-// Whether a file is well kept, and if so how many of its orders are In Review, Permit Pending, Scheduled and Cancel Pending.
+// Whether a file is well kept, and if so how many of its orders are in each open status, as one number.
 pub struct FileTest {
     pub kept: bool,
-    pub review: u16,
-    pub permit: u16,
-    pub scheduled: u16,
-    pub cancel: u16,
+    pub waiting: u64,
 }
 
 // Of a file that is not well kept nothing is counted.
@@ -18,10 +15,7 @@ fn refused() -> FileTest
 {
     FileTest {
         kept: false,
-        review: 0,
-        permit: 0,
-        scheduled: 0,
-        cancel: 0,
+        waiting: 0,
     }
 }
 
@@ -41,10 +35,7 @@ pub fn file_kept(file: File) -> FileTest
         return refused();
     }
     let n = file.count;
-    let mut review: u16 = 0;
-    let mut permit: u16 = 0;
-    let mut scheduled: u16 = 0;
-    let mut cancel: u16 = 0;
+    let mut waiting: u64 = 0;
     // no reference is 0, so that the first one rises
     let mut last: u32 = 0;
     let mut rising = true;
@@ -54,10 +45,7 @@ pub fn file_kept(file: File) -> FileTest
         if !crate::order::order_kept(o) {
             return refused();
         }
-        review += (o.status == premise::IN_REVIEW) as u16;
-        permit += (o.status == premise::PERMIT_PENDING) as u16;
-        scheduled += (o.status == premise::SCHEDULED) as u16;
-        cancel += (o.status == premise::CANCEL_PENDING) as u16;
+        waiting += crate::counts::place_value(o);
         rising = rising & (last < o.reference);
         last = o.reference;
         i += 1;
@@ -83,9 +71,6 @@ pub fn file_kept(file: File) -> FileTest
     }
     FileTest {
         kept: true,
-        review: review,
-        permit: permit,
-        scheduled: scheduled,
-        cancel: cancel,
+        waiting: waiting,
     }
 }

@@ -4,19 +4,15 @@ ghost use Rattle.premise.specs.WellKept.{dayFits, pendingFits, orderKept};
 use premise::Order;
 use records::order_kind;
 
-// Whether the scheduled day fits the status.
+// Whether the scheduled day fits the status: a day unless the status takes none, and none unless it takes a day.
 fn day_fits(o: Order) -> bool
     ensures { λ r. ⌜ r ≡ dayFits o ⌝ }
 {
     let status = o.status;
     let scheduled = o.scheduled;
-    if (status == premise::IN_REVIEW) | (status == premise::PERMIT_PENDING) {
-        scheduled == days::NO_DAY
-    } else if (status == premise::SCHEDULED) | (status == premise::COMPLETE) {
-        scheduled <= days::LAST_DAY
-    } else {
-        scheduled <= days::NO_DAY
-    }
+    let undated = (status == premise::IN_REVIEW) | (status == premise::PERMIT_PENDING);
+    let dated = (status == premise::SCHEDULED) | (status == premise::COMPLETE);
+    ((scheduled <= days::LAST_DAY) & !undated) | ((scheduled == days::NO_DAY) & !dated)
 }
 
 // Whether the days in Cancel Pending fit the status.

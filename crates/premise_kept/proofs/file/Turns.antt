@@ -2,52 +2,43 @@
 -- Assumes nothing.
 use Prim.Native.Nat.{ℕ, _+_, _≤_, _<_}
 use mathlib.Core.Path.{_≡_, refl, sym, ap, _∙_}
-use mathlib.Core.List.{[], _∷_}
-use mathlib.Core.Bool.{Bool, true, false, cond, not, _&&_}
+use mathlib.Core.List.{List, [], _∷_}
+use mathlib.Core.Bool.{Bool, true, false, not, _&&_}
 use native.Mathlib.Omega.{arith}
 use lib.Dec.{ltb}
 use lib.ListN.{length, drop, getD, length-take}
-use mir.Val.{boolByte}
 use borrow.Author.Tests.{eq-eqb, ne-eqb, ltb-true, ltb-false}
 use Rattle.lists.specs.Search.{anyOf, allOf, countOf}
 use Rattle.lists.proofs.Find.{drop-part, part-none, any-hit, any-next, any-end, all-miss, all-next, all-end}
-use Rattle.lists.proofs.Find.{count-next, count-end, count-most}
+use Rattle.lists.proofs.Find.{count-next, count-most}
 use Rattle.lists.proofs.TestLaws.{and-right, and-other}
 use Rattle.premise.specs.declared.Order.{Order}
 use Rattle.premise.specs.declared.File.{File}
 use Rattle.premise.specs.Orders.{mostOrders, inReview, permitPending, scheduled, cancelPending, hasStatus, blank, held}
 use Rattle.premise.specs.WellKept.{orderKept, distinct, isBlank, fileKept}
 use Rattle.premise_kept.specs.declared.file.FileTest.{FileTest}
-use Rattle.premise_kept.specs.Test.{heldWith, passed}
+use Rattle.premise_kept.specs.Test.{packed, placeValue, passed}
 use Rattle.premise_kept.proofs.file.Distinct.{has, risesFrom, rising-distinct, rises-next, rises-end}
 use Rattle.premise_kept.proofs.file.Distinct.{distinct-miss, distinct-next, distinct-end}
 use Rattle.premise_kept.proofs.file.Whole.{headKept, head-few, kept-no-orders, kept-no-references, kept-rest}
 use Rattle.premise_kept.proofs.unused.Zero.{PlacesLeft}
 
--- what an order adds to the count of a status: a test as a number
-abbrev pub oneIf : ℕ → Order → ℕ
-oneIf status o = boolByte (hasStatus status o)
+-- how many of some orders are in each open status
+abbrev packedOf : List Order → ℕ
+packedOf os =
+    packed (countOf (hasStatus inReview) os) (countOf (hasStatus permitPending) os) (countOf (hasStatus scheduled) os)
+    (countOf (hasStatus cancelPending) os)
 
-one-if : (b : Bool) → boolByte b ≡ cond b 1 0
-one-if true = refl
-one-if false = refl
-
--- how many orders of a status have been counted: with those left, as many as the file holds
-abbrev pub Counted : File → ℕ → ℕ → ℕ → Type 0
-Counted f status i count = count + countOf (hasStatus status) (drop i (held f)) ≡ heldWith status f
-
--- the walk over the orders held: the tests of those left give what the tests of all of them give
-pub record HeldSofar (f : File) (n review permit dated cancel last : ℕ) (rising : Bool) (i : ℕ) : Type 0 where
+-- the walk over the orders held: the tests of those left give what the tests of all of them give, and what has been counted, with those
+-- left, is what the file holds
+pub record HeldSofar (f : File) (n waiting last : ℕ) (rising : Bool) (i : ℕ) : Type 0 where
   pub within : i ≤ n
   pub same : n ≡ f .count
   pub eight : length (f .orders) ≡ mostOrders
   pub head : not (headKept f) ≡ false
   pub orders : allOf orderKept (drop i (held f)) ≡ allOf orderKept (held f)
   pub rises : (rising && risesFrom last (drop i (held f))) ≡ risesFrom 0 (held f)
-  pub reviews : Counted f inReview i review
-  pub permits : Counted f permitPending i permit
-  pub dates : Counted f scheduled i dated
-  pub cancels : Counted f cancelPending i cancel
+  pub counted : waiting + packedOf (drop i (held f)) ≡ packedOf (held f)
 
 -- the search for equal references: that of the orders left gives what that of all of them gives
 abbrev pub PairsSofar : File → ℕ → Type 0
@@ -61,8 +52,7 @@ and-join : (a b c : Bool) → ((a && b) && c) ≡ (a && (b && c))
 and-join true b c = refl
 and-join false b c = refl
 
-module _ {f : File} {n review permit dated cancel last : ℕ} {rising : Bool} {i : ℕ}
-    (v : HeldSofar f n review permit dated cancel last rising i) where
+module _ {f : File} {n waiting last : ℕ} {rising : Bool} {i : ℕ} (v : HeldSofar f n waiting last rising i) where
   pub few : n ≤ mostOrders
   few = omega (arith, v .same, head-few f (v .head))
 
@@ -80,38 +70,47 @@ module _ {f : File} {n review permit dated cancel last : ℕ} {rising : Bool} {i
     pub order-not-kept : orderKept o ≡ false → false ≡ fileKept f
     order-not-kept q = sym (kept-no-orders f (sym (v .orders) ∙ all-miss orderKept (order-at i h) q))
 
-    -- one more is counted, or none: at most eight
-    counted-next : (status count : ℕ) → Counted f status i count → Counted f status (i + 1) (count + oneIf status o)
-    counted-next status count e =
-        omega (arith, e, count-next (hasStatus status) (order-at i h), one-if (hasStatus status o))
+    module _ {value : ℕ} (e : value ≡ placeValue o) where
+      counted-next : waiting + value + packedOf (drop (i + 1) (held f)) ≡ packedOf (held f)
+      counted-next =
+          omega (
+            arith,
+            v .counted,
+            e,
+            count-next (hasStatus inReview) (order-at i h),
+            count-next (hasStatus permitPending) (order-at i h),
+            count-next (hasStatus scheduled) (order-at i h),
+            count-next (hasStatus cancelPending) (order-at i h),
+          )
 
-    pub counted-few : (status count : ℕ) → Counted f status i count → count + oneIf status o < 65536
-    counted-few status count e =
-        omega (
-          arith,
-          counted-next status count e,
-          count-most (hasStatus status) (held f),
-          length-take (f .count) (f .orders),
-          v .eight,
-        )
+      -- at most eight in a status
+      few-with : (status : ℕ) → countOf (hasStatus status) (held f) ≤ mostOrders
+      few-with status = omega (arith, count-most (hasStatus status) (held f), length-take (f .count) (f .orders), v .eight)
 
-    pub order-passes : orderKept o ≡ true
-        → HeldSofar f n (review + oneIf inReview o) (permit + oneIf permitPending o) (dated + oneIf scheduled o)
-        (cancel + oneIf cancelPending o) (o .reference) (rising && ltb last (o .reference)) (i + 1)
-    order-passes q =
-        record {
-          within = omega arith;
-          same = v .same;
-          eight = v .eight;
-          head = v .head;
-          orders = sym (all-next orderKept (order-at i h) q) ∙ v .orders;
-          rises = and-join rising (ltb last (o .reference)) (risesFrom (o .reference) (drop (i + 1) (held f)))
-              ∙ ap (λ (b : Bool). rising && b) (sym (rises-next (order-at i h) last)) ∙ v .rises;
-          reviews = counted-next inReview review (v .reviews);
-          permits = counted-next permitPending permit (v .permits);
-          dates = counted-next scheduled dated (v .dates);
-          cancels = counted-next cancelPending cancel (v .cancels);
-        }
+      pub counted-few : waiting + value < 18446744073709551616
+      counted-few =
+          omega (
+            arith,
+            counted-next,
+            few-with inReview,
+            few-with permitPending,
+            few-with scheduled,
+            few-with cancelPending,
+          )
+
+      pub order-passes : orderKept o ≡ true
+          → HeldSofar f n (waiting + value) (o .reference) (rising && ltb last (o .reference)) (i + 1)
+      order-passes q =
+          record {
+            within = omega arith;
+            same = v .same;
+            eight = v .eight;
+            head = v .head;
+            orders = sym (all-next orderKept (order-at i h) q) ∙ v .orders;
+            rises = and-join rising (ltb last (o .reference)) (risesFrom (o .reference) (drop (i + 1) (held f)))
+                ∙ ap (λ (b : Bool). rising && b) (sym (rises-next (order-at i h) last)) ∙ v .rises;
+            counted = counted-next;
+          }
 
   -- ---- a turn of the search for equal references: some do not rise, and there is an order left
   pub order-left : (a : ℕ) → (not rising && ltb a n) ≡ true → a < n
@@ -131,20 +130,12 @@ module _ {f : File} {n review permit dated cancel last : ℕ} {rising : Bool} {i
 
   -- ---- after the last order
   module _ (h : n ≤ i) where
-    all-counted : (status count : ℕ) → Counted f status i count → count ≡ heldWith status f
-    all-counted status count e = omega (arith, e, count-end (hasStatus status) (none-after i h))
+    all-counted : waiting ≡ packedOf (held f)
+    all-counted = sym (omega (arith, ap packedOf (none-after i h))) ∙ v .counted
 
-    pub counts : _≡_ {A = FileTest} (record { kept = true; review = review; permit = permit; scheduled = dated; cancel = cancel })
-        (passed f)
+    pub counts : _≡_ {A = FileTest} (record { kept = true; waiting = waiting }) (passed f)
     unfolding passed
-    counts =
-        λ k. record {
-          kept = true;
-          review = all-counted inReview review (v .reviews) k;
-          permit = all-counted permitPending permit (v .permits) k;
-          scheduled = all-counted scheduled dated (v .dates) k;
-          cancel = all-counted cancelPending cancel (v .cancels) k;
-        }
+    counts = λ k. record { kept = true; waiting = all-counted k }
 
     -- references that rise are distinct, and else all pairs have been asked
     references : (a : ℕ) → PairsSofar f a → (not rising && ltb a n) ≡ false → distinct (held f) ≡ true

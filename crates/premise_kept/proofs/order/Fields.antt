@@ -1,9 +1,12 @@
 -- Laws of an order's fields: which case of the status decides the scheduled day and the days in Cancel Pending, and that the fields in
 -- range make up the definition. Assumes nothing.
-use mathlib.Core.Path.{_≡_}
-use mathlib.Core.Bool.{Bool, true, false, not, _&&_, _||_}
+use Prim.Native.Nat.{ℕ}
+use mathlib.Core.Path.{_≡_, refl, sym}
+use mathlib.Core.Bool.{Bool, true, false, cond, not, _&&_, _||_, and-true, and-false, or-false}
+use native.Mathlib.Omega.{arith}
 use lib.Dec.{eqb, leb}
-use borrow.Author.Tests.{ne-eqb}
+use borrow.Author.Tests.{eqb-true, eqb-false, ne-eqb, leb-true, leb-false, le-leb, lt-leb}
+use Rattle.lists.proofs.TestLaws.{or-either}
 use Rattle.days.specs.Days.{lastDay, noDay, isDay}
 use Rattle.records.specs.Records.{lastCounter, aReference, aRetailer, anOrderKind}
 use Rattle.premise.specs.declared.Order.{Order}
@@ -11,18 +14,41 @@ use Rattle.premise.specs.Orders.{inReview, permitPending, scheduled, cancelPend
 use Rattle.premise.specs.Clock.{mostWaited, mostPending}
 use Rattle.premise.specs.WellKept.{dayFits, permitFits, pendingFits, orderKeptBy, orderKept}
 
+-- a day or none is a number up to none's
+day-or-none : (day : ℕ) → (isDay day || eqb day noDay) ≡ leb day noDay
+day-or-none day = go (isDay day) refl (eqb day noDay) refl
+  where
+    go : (a : Bool) → isDay day ≡ a → (b : Bool) → eqb day noDay ≡ b → (a || b) ≡ leb day noDay
+    go true p b q = sym (le-leb day noDay (omega (arith, leb-true day lastDay p)))
+    go false p true q = sym (le-leb day noDay (omega (arith, eqb-true day noDay q)))
+    go false p false q = sym (lt-leb day noDay (omega (arith, leb-false day lastDay p, eqb-false day noDay q)))
+
 module _ (o : Order) where
   -- ---- the scheduled day
-  pub day-none : (hasStatus inReview o || hasStatus permitPending o) ≡ true → eqb (o .scheduled) noDay ≡ dayFits o
-  day-none e = rw e
+  abbrev undated : Bool
+  undated = hasStatus inReview o || hasStatus permitPending o
 
-  pub day-given : (hasStatus inReview o || hasStatus permitPending o) ≡ false → (hasStatus scheduled o || hasStatus complete o) ≡ true
-      → leb (o .scheduled) lastDay ≡ dayFits o
-  day-given e s = rw (e, s)
+  abbrev dated : Bool
+  dated = hasStatus scheduled o || hasStatus complete o
 
-  pub day-or-none : (hasStatus inReview o || hasStatus permitPending o) ≡ false → (hasStatus scheduled o || hasStatus complete o) ≡ false
-      → leb (o .scheduled) noDay ≡ dayFits o
-  day-or-none e s = rw (e, s)
+  -- no status takes none and a day
+  not-dated : undated ≡ true → dated ≡ false
+  not-dated e =
+      or-either (hasStatus inReview o) (hasStatus permitPending o) e (λ q. rw (eqb-true (o .status) inReview q))
+      (λ q. rw (eqb-true (o .status) permitPending q))
+
+  pub day-fits : ((isDay (o .scheduled) && not undated) || (eqb (o .scheduled) noDay && not dated)) ≡ dayFits o
+  day-fits = go undated refl
+    where
+      given : (d : Bool) → ((isDay (o .scheduled) && true) || (eqb (o .scheduled) noDay && not d))
+          ≡ cond d (isDay (o .scheduled)) (leb (o .scheduled) noDay)
+      given true = rw (and-true (isDay (o .scheduled)), and-false (eqb (o .scheduled) noDay), or-false (isDay (o .scheduled)))
+      given false =
+          rw (and-true (isDay (o .scheduled)), and-true (eqb (o .scheduled) noDay)) (day-or-none (o .scheduled))
+      go : (u : Bool) → undated ≡ u → ((isDay (o .scheduled) && not u) || (eqb (o .scheduled) noDay && not dated))
+          ≡ cond u (eqb (o .scheduled) noDay) (cond dated (isDay (o .scheduled)) (leb (o .scheduled) noDay))
+      go true e = rw (not-dated e, and-false (isDay (o .scheduled)), and-true (eqb (o .scheduled) noDay))
+      go false e = given dated
 
   -- ---- the days in Cancel Pending
   pub pending-counted : o .status ≡ cancelPending → not (leb mostPending (o .pending .0)) ≡ pendingFits o

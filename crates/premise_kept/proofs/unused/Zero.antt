@@ -1,19 +1,58 @@
 -- Laws of unused places. A place of the book: a field besides its orders that is not zero fails the test, and else the places decide. The
 -- places of a file, looked at one after another. Assumes nothing.
 use Prim.Native.Nat.{ℕ, _+_, _≤_, _<_}
-use mathlib.Core.Path.{_≡_, sym, _∙_}
-use mathlib.Core.List.{List, _∷_}
+use mathlib.Core.Path.{_≡_, refl, sym, ap, _∙_}
+use mathlib.Core.List.{List, [], _∷_}
 use mathlib.Core.Bool.{Bool, true, false, not, _&&_}
 use native.Mathlib.Omega.{arith}
 use lib.Dec.{eqb}
 use lib.ListN.{length, drop, getD}
-use borrow.Author.Tests.{eq-eqb, not-true, not-false}
+use borrow.Author.Tests.{eqb-true, eq-eqb, not-true, not-false}
 use Rattle.lists.specs.Search.{allOf}
 use Rattle.lists.proofs.Find.{drop-first, drop-none, all-miss, all-next, all-end}
+use Rattle.lists.proofs.TestLaws.{pass-each}
 use Rattle.premise.specs.declared.Order.{Order}
 use Rattle.premise.specs.declared.File.{File}
 use Rattle.premise.specs.Orders.{mostOrders, blank}
 use Rattle.premise.specs.WellKept.{isBlank, fileBlank}
+use Rattle.premise.proofs.Blank.{blank-is}
+
+-- ---- a place of a file
+module _ (o : Order) {narrow : ℕ}
+    (sum : narrow ≡ o .reference + o .requested + o .scheduled + o .kind + o .status + o .waited .0 + o .pending .0 + o .told) where
+  abbrev wideAndSum : Bool
+  wideAndSum = eqb (o .submitter) 0 && eqb (o .counter) 0 && eqb narrow 0
+
+  sum-blank : wideAndSum ≡ true → isBlank o ≡ true
+  unfolding isBlank
+  sum-blank e =
+      let t = pass-each (eqb (o .submitter) 0) (eqb (o .counter) 0 ∷ eqb narrow 0 ∷ []) e in
+      let none = eqb-true narrow 0 (t .1 .1 .0) in
+      rw (
+        eq-eqb (o .reference) 0 (omega (arith, sum, none)),
+        eq-eqb (o .kind) 0 (omega (arith, sum, none)),
+        t .0,
+        eq-eqb (o .requested) 0 (omega (arith, sum, none)),
+        eq-eqb (o .scheduled) 0 (omega (arith, sum, none)),
+        eq-eqb (o .status) 0 (omega (arith, sum, none)),
+        eq-eqb (o .waited .0) 0 (omega (arith, sum, none)),
+        eq-eqb (o .pending .0) 0 (omega (arith, sum, none)),
+        eq-eqb (o .told) 0 (omega (arith, sum, none)),
+        t .1 .0,
+      )
+
+  blank-sum : isBlank o ≡ true → wideAndSum ≡ true
+  blank-sum e = 
+      let b = blank-is o e in
+      rw (ap (λ (x : Order). x .submitter) b, ap (λ (x : Order). x .counter) b, sum, b)
+
+  pub blank-by-sum : wideAndSum ≡ isBlank o
+  blank-by-sum = go wideAndSum refl (isBlank o) refl
+    where
+      go : (a : Bool) → wideAndSum ≡ a → (b : Bool) → isBlank o ≡ b → a ≡ b
+      go true p b q = sym (sum-blank p) ∙ q
+      go false p true q = sym p ∙ blank-sum q
+      go false p false q = refl
 
 -- ---- a place of the book
 module _ (f : File) where

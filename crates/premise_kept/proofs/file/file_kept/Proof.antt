@@ -9,7 +9,7 @@ use lib.ListN.{length}
 use borrow.Author.Needs.{needs}
 use borrow.Author.Tests.{not-true, not-false}
 use Rattle.lists.proofs.Length.{unmapped}
-use Rattle.premise.specs.Orders.{mostOrders, inReview, permitPending, scheduled, cancelPending}
+use Rattle.premise.specs.Orders.{mostOrders}
 use Rattle.premise.specs.WellKept.{fileKept}
 use Rattle.premise_kept.proofs.file.Whole.{kept-no-head, gives-refused, gives-passed}
 use Rattle.premise_kept.proofs.file.Turns.{
@@ -32,29 +32,29 @@ use Rattle.premise_kept.proofs.file.file_kept.Statement.{statement}
 use Rattle.premise_kept.proofs.file.file_kept.Tie as tie
 
 abbrev Inv-held : tie.InvT-held
-Inv-held file n review₀ permit₀ scheduled₀ cancel₀ last₀ rising₀ i₀ review permit scheduled cancel last rising i =
-    HeldSofar file n review permit scheduled cancel last rising i
+Inv-held file n waiting₀ last₀ rising₀ i₀ waiting last rising i =
+    HeldSofar file n waiting last rising i
 
 abbrev μ-held : tie.MeasureT-held
-μ-held file n review₀ permit₀ scheduled₀ cancel₀ last₀ rising₀ i₀ review permit scheduled cancel last rising i = n - i
+μ-held file n waiting₀ last₀ rising₀ i₀ waiting last rising i = n - i
 
 abbrev Inv-later : tie.InvT-later
-Inv-later file n review permit scheduled cancel last rising i first reference later₀ later = LaterSofar file reference first later
+Inv-later file n waiting last rising i first reference later₀ later = LaterSofar file reference first later
 
 abbrev μ-later : tie.MeasureT-later
-μ-later file n review permit scheduled cancel last rising i first reference later₀ later = n - later
+μ-later file n waiting last rising i first reference later₀ later = n - later
 
 abbrev Inv-pairs : tie.InvT-pairs
-Inv-pairs file n review permit scheduled cancel last rising i first₀ first = PairsSofar file first
+Inv-pairs file n waiting last rising i first₀ first = PairsSofar file first
 
 abbrev μ-pairs : tie.MeasureT-pairs
-μ-pairs file n review permit scheduled cancel last rising i first₀ first = n - first
+μ-pairs file n waiting last rising i first₀ first = n - first
 
 abbrev Inv-unused : tie.InvT-unused
-Inv-unused file n review permit scheduled cancel last rising i₀ first i = PlacesLeft (file .orders) (fileKept file) i
+Inv-unused file n waiting last rising i₀ first i = PlacesLeft (file .orders) (fileKept file) i
 
 abbrev μ-unused : tie.MeasureT-unused
-μ-unused file n review permit scheduled cancel last rising i₀ first i = mostOrders - i
+μ-unused file n waiting last rising i₀ first i = mostOrders - i
 
 cast-if1 : tie.Need-cast-if1 Inv-held μ-held Inv-later μ-later Inv-pairs μ-pairs Inv-unused μ-unused
 cast-if1 c = search needs
@@ -76,10 +76,7 @@ held-holds c =
       head = c .if1 .left;
       orders = refl;
       rises = refl;
-      reviews = omega arith;
-      permits = omega arith;
-      dates = omega arith;
-      cancels = omega arith;
+      counted = omega arith;
     }
 
 mul-o : tie.Need-mul-o Inv-held μ-held Inv-later μ-later Inv-pairs μ-pairs Inv-unused μ-unused
@@ -101,52 +98,29 @@ returns-2 c =
     gives-refused _ (c .refused2 .ensures)
     (order-not-kept (w .before .held .inv) (w .held-test .taken) (sym (t .before .order-kept .ensures) ∙ not-true _ (t .if2 .taken)))
 
-cast-review : tie.Need-cast-review Inv-held μ-held Inv-later μ-later Inv-pairs μ-pairs Inv-unused μ-unused
-cast-review c = search needs
+place-value-requires : tie.Need-place-value-requires Inv-held μ-held Inv-later μ-later Inv-pairs μ-pairs Inv-unused μ-unused
+place-value-requires c κs = search needs
 
-add-review : tie.Need-add-review Inv-held μ-held Inv-later μ-later Inv-pairs μ-pairs Inv-unused μ-unused
-add-review c =
+add-waiting : tie.Need-add-waiting Inv-held μ-held Inv-later μ-later Inv-pairs μ-pairs Inv-unused μ-unused
+add-waiting c =
     let w = c .before .before .before .before in
-    record { fits = counted-few (w .before .held .inv) (w .held-test .taken) inReview _ (w .before .held .inv .reviews) }
-
-cast-permit : tie.Need-cast-permit Inv-held μ-held Inv-later μ-later Inv-pairs μ-pairs Inv-unused μ-unused
-cast-permit c = search needs
-
-add-permit : tie.Need-add-permit Inv-held μ-held Inv-later μ-later Inv-pairs μ-pairs Inv-unused μ-unused
-add-permit c =
-    let w = c .before .before .before .before .before in
-    record { fits = counted-few (w .before .held .inv) (w .held-test .taken) permitPending _ (w .before .held .inv .permits) }
-
-cast-scheduled : tie.Need-cast-scheduled Inv-held μ-held Inv-later μ-later Inv-pairs μ-pairs Inv-unused μ-unused
-cast-scheduled c = search needs
-
-add-scheduled : tie.Need-add-scheduled Inv-held μ-held Inv-later μ-later Inv-pairs μ-pairs Inv-unused μ-unused
-add-scheduled c =
-    let w = c .before .before .before .before .before .before in
-    record { fits = counted-few (w .before .held .inv) (w .held-test .taken) scheduled _ (w .before .held .inv .dates) }
-
-cast-cancel : tie.Need-cast-cancel Inv-held μ-held Inv-later μ-later Inv-pairs μ-pairs Inv-unused μ-unused
-cast-cancel c = search needs
-
-add-cancel : tie.Need-add-cancel Inv-held μ-held Inv-later μ-later Inv-pairs μ-pairs Inv-unused μ-unused
-add-cancel c =
-    let w = c .before .before .before .before .before .before .before in
-    record { fits = counted-few (w .before .held .inv) (w .held-test .taken) cancelPending _ (w .before .held .inv .cancels) }
+    record { fits = counted-few (w .before .held .inv) (w .held-test .taken) (c .place-value .ensures) }
 
 add-i : tie.Need-add-i Inv-held μ-held Inv-later μ-later Inv-pairs μ-pairs Inv-unused μ-unused
 add-i c =
-    let w = c .before .before .before .before .before .before .before .before in
+    let w = c .before .before .before .before .before in
     omega (arith, w .held-test .taken, few (w .before .held .inv))
 
 held-less : tie.Need-held-less Inv-held μ-held Inv-later μ-later Inv-pairs μ-pairs Inv-unused μ-unused
 held-less c =
-    let w = c .before .before .before .before .before .before .before .before in omega (arith, w .held-test .taken)
+    let w = c .before .before .before .before .before in omega (arith, w .held-test .taken)
 
 held-again : tie.Need-held-again Inv-held μ-held Inv-later μ-later Inv-pairs μ-pairs Inv-unused μ-unused
 held-again c =
-    let e = c .before .before .before .before .before in
+    let p = c .before in
+    let e = p .before in
     let w = e .before .before .before in
-    order-passes (w .before .held .inv) (w .held-test .taken) (sym (e .before .order-kept .ensures) ∙ not-false _ (e .if2 .left))
+    order-passes (w .before .held .inv) (w .held-test .taken) (p .place-value .ensures) (sym (e .before .order-kept .ensures) ∙ not-false _ (e .if2 .left))
 
 pairs-holds : tie.Need-pairs-holds Inv-held μ-held Inv-later μ-later Inv-pairs μ-pairs Inv-unused μ-unused
 pairs-holds c = refl
@@ -287,14 +261,8 @@ file-kept-spec =
     order-kept-requires
     refused-requires-2
     returns-2
-    cast-review
-    add-review
-    cast-permit
-    add-permit
-    cast-scheduled
-    add-scheduled
-    cast-cancel
-    add-cancel
+    place-value-requires
+    add-waiting
     add-i
     held-less
     held-again

@@ -1,9 +1,9 @@
-// The four totals of waiting orders: of no file, compared, and moved from a file to the one that is stored in its place.
+// The four totals of waiting orders: of no file, and moved from a file to the one that is stored in its place.
 ghost use mathlib.Core.Path.{_≡_};
 ghost use mathlib.Core.List.{[]};
 ghost use Prim.Native.Nat.{_≤_, _<_};
 ghost use Rattle.premise.specs.WellKept.{Tidy};
-ghost use Rattle.book.specs.Totals.{waitingIn, sameTotals, moved, Counts};
+ghost use Rattle.book.specs.Totals.{waitingIn, moved, Counts};
 ghost use Rattle.book_files.specs.Turned.{oneIf, turnedTotal, turned, Turns};
 use book::Waiting;
 use premise::File;
@@ -18,16 +18,6 @@ pub fn nothing() -> Waiting
         scheduled: 0,
         cancel: 0,
     }
-}
-
-// Whether four totals are another four.
-pub fn same(w: Waiting, v: Waiting) -> bool
-    ensures { λ r. ⌜ r ≡ sameTotals w v ⌝ }
-{
-    (w.review == v.review)
-        & (w.permit == v.permit)
-        & (w.scheduled == v.scheduled)
-        & (w.cancel == v.cancel)
 }
 
 // A total after an order has turned from one status into another.

@@ -3,7 +3,7 @@
 use Prim.Native.Nat.{ℕ, _+_, _-_, _≤_, _<_}
 use mathlib.Core.Path.{_≡_, refl, sym, ap, subst⁻¹, _∙_}
 use mathlib.Core.List.{List, [], _∷_, _++_}
-use mathlib.Core.Bool.{Bool, true, false, not, cond, _&&_, and-false, false≢true}
+use mathlib.Core.Bool.{Bool, true, false, not, cond, _&&_, and-false}
 use native.Mathlib.Numerals.{add-one}
 use native.Mathlib.Omega.{arith}
 use lib.Dec.{eqb, leb}
@@ -20,13 +20,13 @@ use Rattle.premise.specs.Orders.{blankFile}
 use Rattle.premise.specs.WellKept.{fileKept, fileBlank, FileKept}
 use Rattle.premise.proofs.KeptFiles.{kept-means}
 use Rattle.premise_kept.specs.declared.file.FileTest.{FileTest}
-use Rattle.premise_kept.specs.Test.{passed, refused, fileTest}
+use Rattle.premise_kept.specs.Test.{packed, passed, refused, fileTest}
 use Rattle.book.specs.declared.Book.{Book}
 use Rattle.book.specs.declared.Waiting.{Waiting}
-use Rattle.book.specs.Totals.{waitingIn, sameTotals, moved, Counts}
+use Rattle.book.specs.Totals.{waitingIn, sameTotals, moved}
 use Rattle.book.specs.Book.{mostFiles, filesOf, risesFrom, bookKeptBy, bookKept}
 use Rattle.book.proofs.Kept.{totals-off}
-use Rattle.book.proofs.Totals.{same-totals, totals-same, counts-none, moved-next}
+use Rattle.book.proofs.Totals.{totals-same, counts-none, moved-next}
 
 -- ---- the files held: well kept, and their numbers rise from above a number
 abbrev pub heldKept : ℕ → List File → Bool
@@ -44,6 +44,24 @@ module _ (last : ℕ) {f : File} {left rest : List File} (e : left ≡ f ∷ res
 
 pub held-end : (last : ℕ) {left : List File} → left ≡ [] → heldKept last left ≡ true
 held-end last e = rw e
+
+-- ---- the four totals as one number, which has 16 bits for each
+abbrev pub packedTotals : Waiting → ℕ
+packedTotals w = packed (w .review) (w .permit) (w .scheduled) (w .cancel)
+
+pub record Narrow (w : Waiting) : Type 0 where
+  pub review : w .review < 65536
+  pub permit : w .permit < 65536
+  pub dated : w .scheduled < 65536
+  pub cancel : w .cancel < 65536
+
+packed-same : {w v : Waiting} → Narrow w → Narrow v → packedTotals w ≡ packedTotals v → w ≡ v
+packed-same {w} {v} a b e =
+    let cancel : w .cancel ≡ v .cancel = omega (arith, a, b, e) in
+    let dated : w .scheduled ≡ v .scheduled = omega (arith, a, b, e, cancel) in
+    let permit : w .permit ≡ v .permit = omega (arith, a, b, e, cancel, dated) in
+    let review : w .review ≡ v .review = omega (arith, a, b, e, cancel, dated, permit) in
+    λ i. record { review = review i; permit = permit i; scheduled = dated i; cancel = cancel i }
 
 -- ---- the parts
 one-fails : (x kept rising : Bool) → (kept && rising) ≡ false → (x && kept && rising) ≡ false
@@ -68,9 +86,8 @@ module _ (b : Book) where
       (risesFrom 0 (filesOf b)) h)
 
   -- Document 02, change 11: "A book whose totals are off is not well kept."
-  pub totals-fail : {totals : Waiting} → totals ≡ waitingIn (filesOf b) → sameTotals (b .waiting) totals ≡ false → bookKept b ≡ false
-  totals-fail sum h =
-      totals-off b (λ e. false≢true (sym h ∙ totals-same (b .waiting) _ (e ∙ sym sum)))
+  pub totals-fail : (packedTotals (b .waiting) ≡ packedTotals (waitingIn (filesOf b)) → ⊥) → bookKept b ≡ false
+  totals-fail differ = totals-off b (λ e. differ (ap packedTotals e))
 
   -- the places after the files decide where the other parts passed
   pub unused-decide : b .today ≤ lastDay → b .count ≤ mostFiles → length (b .files) ≡ mostFiles → heldKept 0 (filesOf b) ≡ true
@@ -87,15 +104,6 @@ module _ (b : Book) where
       )
 
 -- ---- the test of a file: whether it is well kept, and its orders added to the totals
-abbrev pub with : Waiting → FileTest → Waiting
-with w t =
-    record {
-      review = w .review + t .review;
-      permit = w .permit + t .permit;
-      scheduled = w .scheduled + t .scheduled;
-      cancel = w .cancel + t .cancel;
-    }
-
 module _ (f : File) {t : FileTest} (e : t ≡ fileTest f) where
   pub test-says : t .kept ≡ fileKept f
   unfolding fileTest passed refused
@@ -105,23 +113,15 @@ module _ (f : File) {t : FileTest} (e : t ≡ fileTest f) where
       go true = refl
       go false = refl
 
-  test-counts : (w : Waiting) → fileKept f ≡ true → with w t ≡ moved w blankFile f
+  test-counts : (w : Waiting) → fileKept f ≡ true → packedTotals w + t .waiting ≡ packedTotals (moved w blankFile f)
   unfolding fileTest passed moved
   test-counts w k =
-      let p : t ≡ passed f = e ∙ ap (λ (b : Bool). cond b (passed f) refused) k in
-      λ i. record {
-        review = one (w .review) (ap (λ (x : FileTest). x .review) p) i;
-        permit = one (w .permit) (ap (λ (x : FileTest). x .permit) p) i;
-        scheduled = one (w .scheduled) (ap (λ (x : FileTest). x .scheduled) p) i;
-        cancel = one (w .cancel) (ap (λ (x : FileTest). x .cancel) p) i;
-      }
-    where
-      one : (total : ℕ) {count held : ℕ} → count ≡ held → total + count ≡ total + held - 0
-      one total h = omega (arith, h)
+      let p : t .waiting ≡ passed f .waiting = ap (λ (x : FileTest). x .waiting) (e ∙ ap (λ (b : Bool). cond b (passed f) refused) k) in
+      omega (arith, p)
 
 -- ---- the loop over the files held: the test of those left gives what the test of all of them gives, and of those passed, which are well
 -- kept, the waiting orders are added up
-pub record HeldSofar (b : Book) (n : ℕ) (totals : Waiting) (last i : ℕ) : Type 0 where
+pub record HeldSofar (b : Book) (n waiting last i : ℕ) : Type 0 where
   pub within : i ≤ n
   pub same : n ≡ b .count
   pub few : n ≤ mostFiles
@@ -129,7 +129,7 @@ pub record HeldSofar (b : Book) (n : ℕ) (totals : Waiting) (last i : ℕ) : Ty
   pub long : length (b .files) ≡ mostFiles
   pub kept : heldKept last (drop i (filesOf b)) ≡ heldKept 0 (filesOf b)
   pub passed : Each FileKept (take i (filesOf b))
-  pub sum : totals ≡ waitingIn (take i (filesOf b))
+  pub sum : waiting ≡ packedTotals (waitingIn (take i (filesOf b)))
 
 -- ---- the loop over the unused places: the test of those left gives what the test of the book gives
 pub record UnusedSofar (b : Book) (i : ℕ) : Type 0 where
@@ -137,12 +137,20 @@ pub record UnusedSofar (b : Book) (i : ℕ) : Type 0 where
   pub long : length (b .files) ≡ mostFiles
   pub decides : allOf fileBlank (drop i (b .files)) ≡ bookKept b
 
-module _ {b : Book} {n : ℕ} {totals : Waiting} {last i : ℕ} (v : HeldSofar b n totals last i) where
+module _ {b : Book} {n waiting last i : ℕ} (v : HeldSofar b n waiting last i) where
   -- the totals are within a book's orders
-  pub few-waiting : Counts totals blankFile
-  few-waiting =
-      subst⁻¹ (λ (w : Waiting). Counts w blankFile) (v .sum)
-      (counts-none (take i (filesOf b)) (omega (arith, length-take i (filesOf b), v .within, v .few)) (v .passed))
+  sofar-narrow : Narrow (waitingIn (take i (filesOf b)))
+  sofar-narrow =
+      let few = counts-none (take i (filesOf b)) (omega (arith, length-take i (filesOf b), v .within, v .few)) (v .passed) in
+      record {
+        review = omega (arith, few .review .1);
+        permit = omega (arith, few .permit .1);
+        dated = omega (arith, few .dated .1);
+        cancel = omega (arith, few .cancel .1);
+      }
+
+  pub waiting-fits : waiting < 18446744073709551616
+  waiting-fits = omega (arith, v .sum, sofar-narrow)
 
   -- a turn: the file at the place, and those after it
   module _ (d : File) (h : i < n) where
@@ -167,7 +175,7 @@ module _ {b : Book} {n : ℕ} {totals : Waiting} {last i : ℕ} (v : HeldSofar b
           sym (held-fails b (sym (v .kept) ∙ not-kept last turn (sym (test-says (getD (b .files) i d) e) ∙ not-true (t .kept) q)))
 
       pub file-passes : last < getD (b .files) i d .premise → not (t .kept) ≡ false
-          → HeldSofar b n (with totals t) (getD (b .files) i d .premise) (i + 1)
+          → HeldSofar b n (waiting + t .waiting) (getD (b .files) i d .premise) (i + 1)
       file-passes r q =
           let k = sym (test-says (getD (b .files) i d) e) ∙ not-false (t .kept) q in
           record {
@@ -180,29 +188,31 @@ module _ {b : Book} {n : ℕ} {totals : Waiting} {last i : ℕ} (v : HeldSofar b
             passed = subst⁻¹ (Each FileKept) more
                 (each-append FileKept (take i (filesOf b)) (getD (b .files) i d ∷ []) (v .passed)
                 (kept-means (getD (b .files) i d) .0 k, tt));
-            sum = test-counts (getD (b .files) i d) e totals k ∙ (λ j. moved (v .sum j) blankFile (getD (b .files) i d))
-                ∙ moved-next (take i (filesOf b)) (getD (b .files) i d) ∙ ap waitingIn (sym more);
+            sum = ap (λ (m : ℕ). m + t .waiting) (v .sum)
+                ∙ test-counts (getD (b .files) i d) e (waitingIn (take i (filesOf b))) k
+                ∙ ap packedTotals (moved-next (take i (filesOf b)) (getD (b .files) i d) ∙ ap waitingIn (sym more));
           }
 
-  -- after the last one the totals are those of all files ..
-  all-passed : n ≤ i → totals ≡ waitingIn (filesOf b)
-  all-passed h = v .sum ∙ ap waitingIn (take-all i (filesOf b) (omega (arith, h, v .same, length-take (b .count) (b .files))))
+  -- after the last one all files are passed ..
+  module _ (h : n ≤ i) {number : ℕ} (e : number ≡ packedTotals (b .waiting)) where
+    all-files : take i (filesOf b) ≡ filesOf b
+    all-files = take-all i (filesOf b) (omega (arith, h, v .same, length-take (b .count) (b .files)))
 
-  pub totals-differ : n ≤ i → sameTotals (b .waiting) totals ≡ false → false ≡ bookKept b
-  totals-differ h q = sym (totals-fail b (all-passed h) q)
+    pub totals-differ : (number ≡ waiting → ⊥) → false ≡ bookKept b
+    totals-differ q = sym (totals-fail b (λ p. q (e ∙ p ∙ sym (v .sum ∙ ap (λ (fs : List File). packedTotals (waitingIn fs)) all-files))))
 
-  -- .. and where the book has these, the unused places decide
-  pub held-done : n ≤ i → sameTotals (b .waiting) totals ≡ true → UnusedSofar b i
-  held-done h q =
-      let end : i ≡ b .count = omega (arith, v .within, v .same) in
-      let held = sym (v .kept) ∙ held-end last (part-none (b .files) (b .count) i (omega (arith, end))) in
-      record {
-        within = omega (arith, v .within, v .few);
-        long = v .long;
-        decides = ap (λ (j : ℕ). allOf fileBlank (drop j (b .files))) end
-            ∙ sym (unused-decide b (v .day) (omega (arith, v .few, v .same)) (v .long) held
-            (same-totals (b .waiting) totals q ∙ all-passed h));
-      }
+    -- .. and where the book's totals are theirs, the unused places decide
+    pub held-done : Narrow (b .waiting) → number ≡ waiting → UnusedSofar b i
+    held-done narrow q =
+        let end : i ≡ b .count = omega (arith, v .within, v .same) in
+        let held = sym (v .kept) ∙ held-end last (part-none (b .files) (b .count) i (omega (arith, end))) in
+        record {
+          within = omega (arith, v .within, v .few);
+          long = v .long;
+          decides = ap (λ (j : ℕ). allOf fileBlank (drop j (b .files))) end
+              ∙ sym (unused-decide b (v .day) (omega (arith, v .few, v .same)) (v .long) held
+              (packed-same narrow sofar-narrow (sym e ∙ q ∙ v .sum) ∙ ap waitingIn all-files));
+        }
 
 module _ {b : Book} {i : ℕ} (v : UnusedSofar b i) where
   module _ (d : File) (h : i < mostFiles) where

@@ -14,7 +14,7 @@ use Rattle.book_files.proofs.kept.WellKept.{
   no-day,
   too-many,
   HeldSofar,
-  few-waiting,
+  waiting-fits,
   file-not-rising,
   file-not-kept,
   file-passes,
@@ -29,17 +29,16 @@ use Rattle.book_files.proofs.kept.book_kept.Statement.{statement}
 use Rattle.book_files.proofs.kept.book_kept.Tie as tie
 
 abbrev Inv-held : tie.InvT-held
-Inv-held b n review₀ permit₀ scheduled₀ cancel₀ last₀ i₀ review permit scheduled cancel last i =
-    HeldSofar b n (record { review = review; permit = permit; scheduled = scheduled; cancel = cancel }) last i
+Inv-held b n waiting₀ last₀ i₀ waiting last i = HeldSofar b n waiting last i
 
 abbrev μ-held : tie.MeasureT-held
-μ-held b n review₀ permit₀ scheduled₀ cancel₀ last₀ i₀ review permit scheduled cancel last i = n - i
+μ-held b n waiting₀ last₀ i₀ waiting last i = n - i
 
 abbrev Inv-unused : tie.InvT-unused
-Inv-unused b n review permit scheduled cancel last i₀ i = UnusedSofar b i
+Inv-unused b n waiting last i₀ i = UnusedSofar b i
 
 abbrev μ-unused : tie.MeasureT-unused
-μ-unused b n review permit scheduled cancel last i₀ i = 64 - i
+μ-unused b n waiting last i₀ i = 64 - i
 
 returns : tie.Need-returns Inv-held μ-held Inv-unused μ-unused
 returns c = sym (no-day (c .before .args .t1) (omega (arith, c .if1 .taken)))
@@ -62,15 +61,21 @@ held-holds c =
       sum = refl;
     }
 
+mul-premise : tie.Need-mul-premise Inv-held μ-held Inv-unused μ-unused
+mul-premise c = omega arith
+
+element-copy-out-premise : tie.Need-element-copy-out-premise Inv-held μ-held Inv-unused μ-unused
+element-copy-out-premise c = omega arith
+
+returns-3 : tie.Need-returns-3 Inv-held μ-held Inv-unused μ-unused
+returns-3 c =
+    let w = c .before in file-not-rising (w .before .held .inv) past (w .held-test .taken) (omega (arith, c .if3 .taken))
+
 mul-f : tie.Need-mul-f Inv-held μ-held Inv-unused μ-unused
 mul-f c = omega arith
 
 element-copy-out-f : tie.Need-element-copy-out-f Inv-held μ-held Inv-unused μ-unused
 element-copy-out-f c = omega arith
-
-returns-3 : tie.Need-returns-3 Inv-held μ-held Inv-unused μ-unused
-returns-3 c =
-    let w = c .before .before .before in file-not-rising (w .before .held .inv) past (w .held-test .taken) (omega (arith, c .if3 .taken))
 
 file-kept-requires : tie.Need-file-kept-requires Inv-held μ-held Inv-unused μ-unused
 file-kept-requires c κs = search needs
@@ -78,44 +83,18 @@ file-kept-requires c κs = search needs
 returns-4 : tie.Need-returns-4 Inv-held μ-held Inv-unused μ-unused
 returns-4 c =
     let k = c .before .before in
-    let w = k .before .before .before .before in
+    let w = k .before .before .before in
     file-not-kept (w .before .held .inv) past (w .held-test .taken) (k .file-kept .ensures) (c .if4 .taken)
 
-add-review : tie.Need-add-review Inv-held μ-held Inv-unused μ-unused
-add-review c =
+add-waiting : tie.Need-add-waiting Inv-held μ-held Inv-unused μ-unused
+add-waiting c =
     let e = c .before in
     let k = e .before .before in
-    let w = k .before .before .before .before in
+    let r = k .before .before in
+    let w = r .before in
     let v = file-passes (w .before .held .inv) past (w .held-test .taken) (k .file-kept .ensures)
-    (omega (arith, k .before .if3 .left)) (e .if4 .left) in
-    omega (arith, few-waiting v .review .1)
-
-add-permit : tie.Need-add-permit Inv-held μ-held Inv-unused μ-unused
-add-permit c =
-    let e = c .before .before in
-    let k = e .before .before in
-    let w = k .before .before .before .before in
-    let v = file-passes (w .before .held .inv) past (w .held-test .taken) (k .file-kept .ensures)
-    (omega (arith, k .before .if3 .left)) (e .if4 .left) in
-    omega (arith, few-waiting v .permit .1)
-
-add-scheduled : tie.Need-add-scheduled Inv-held μ-held Inv-unused μ-unused
-add-scheduled c =
-    let e = c .before .before .before in
-    let k = e .before .before in
-    let w = k .before .before .before .before in
-    let v = file-passes (w .before .held .inv) past (w .held-test .taken) (k .file-kept .ensures)
-    (omega (arith, k .before .if3 .left)) (e .if4 .left) in
-    omega (arith, few-waiting v .dated .1)
-
-add-cancel : tie.Need-add-cancel Inv-held μ-held Inv-unused μ-unused
-add-cancel c =
-    let e = c .before .before .before .before in
-    let k = e .before .before in
-    let w = k .before .before .before .before in
-    let v = file-passes (w .before .held .inv) past (w .held-test .taken) (k .file-kept .ensures)
-    (omega (arith, k .before .if3 .left)) (e .if4 .left) in
-    omega (arith, few-waiting v .cancel .1)
+    (omega (arith, r .if3 .left)) (e .if4 .left) in
+    record { fits = waiting-fits v }
 
 add-i : tie.Need-add-i Inv-held μ-held Inv-unused μ-unused
 add-i c = omega arith
@@ -125,24 +104,30 @@ held-less c = omega arith
 
 held-again : tie.Need-held-again Inv-held μ-held Inv-unused μ-unused
 held-again c =
-    let e = c .before .before .before .before in
+    let e = c .before in
     let k = e .before .before in
-    let w = k .before .before .before .before in
+    let r = k .before .before in
+    let w = r .before in
     file-passes (w .before .held .inv) past (w .held-test .taken) (k .file-kept .ensures)
-    (omega (arith, k .before .if3 .left)) (e .if4 .left)
+    (omega (arith, r .if3 .left)) (e .if4 .left)
 
-same-requires : tie.Need-same-requires Inv-held μ-held Inv-unused μ-unused
-same-requires c κs = search needs
+packed-requires : tie.Need-packed-requires Inv-held μ-held Inv-unused μ-unused
+packed-requires c κs = search needs
 
 returns-5 : tie.Need-returns-5 Inv-held μ-held Inv-unused μ-unused
 returns-5 c =
-    let w = c .before .before .before in
-    totals-differ (w .before .held .inv) (w .held-test .left) (sym (c .before .same .ensures) ∙ not-true _ (c .if5 .taken))
+    let p = c .before in
+    let w = p .before .before in
+    totals-differ (w .before .held .inv) (w .held-test .left) (p .packed .ensures) (c .if5 .taken)
 
 unused-holds : tie.Need-unused-holds Inv-held μ-held Inv-unused μ-unused
 unused-holds c =
-    let w = c .before .before .before in
-    held-done (w .before .held .inv) (w .held-test .left) (sym (c .before .same .ensures) ∙ not-false _ (c .if5 .left))
+    let p = c .before in
+    let w = p .before .before in
+    let g = w .before .before .before .before .good in
+    held-done (w .before .held .inv) (w .held-test .left) (p .packed .ensures)
+    (record { review = omega (arith, g); permit = omega (arith, g); dated = omega (arith, g); cancel = omega (arith, g) })
+    (c .if5 .left)
 
 mul-f-2 : tie.Need-mul-f-2 Inv-held μ-held Inv-unused μ-unused
 mul-f-2 c = omega arith
@@ -185,19 +170,18 @@ book-kept-spec =
     returns
     returns-2
     held-holds
+    mul-premise
+    element-copy-out-premise
+    returns-3
     mul-f
     element-copy-out-f
-    returns-3
     file-kept-requires
     returns-4
-    add-review
-    add-permit
-    add-scheduled
-    add-cancel
+    add-waiting
     add-i
     held-less
     held-again
-    same-requires
+    packed-requires
     returns-5
     unused-holds
     mul-f-2

@@ -19,7 +19,7 @@ pub fn book_kept(b: Book) -> bool
     let mut last: u64 = 0;
     let mut i: usize = 0;
     'held: while i < n {
-        // read by itself before the file is copied: a copy of which a field is compared first is made from an odd place on
+        // The number by itself, and then the file: a number taken from the copy is copied apart, and the rest of the file misaligned.
         let premise = b.files[i].premise;
         if premise <= last {
             return false;

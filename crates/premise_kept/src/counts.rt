@@ -1,7 +1,8 @@
 // How many orders are in each open status, as one number: 16 bits for each of the four counts, so that one sum adds up all of them and one
 // comparison compares them.
 ghost use mathlib.Core.Path.{_≡_};
-ghost use Rattle.premise_kept.specs.Test.{packed, placeValue};
+ghost use mathlib.Core.List.{[], _∷_};
+ghost use Rattle.premise_kept.specs.Test.{packed, packedCounts};
 use premise::Order;
 
 // What one order counts in Permit Pending, Scheduled and Cancel Pending; In Review it counts 1.
@@ -11,9 +12,9 @@ const SCHEDULED_PLACE: u64 = 4294967296;
 
 const CANCEL_PLACE: u64 = 281474976710656;
 
-// What an order counts.
+// What an order counts: one in its status.
 pub fn place_value(o: Order) -> u64
-    ensures { λ r. ⌜ r ≡ placeValue o ⌝ }
+    ensures { λ r. ⌜ r ≡ packedCounts (o ∷ []) ⌝ }
 {
     let status = o.status;
     match status {

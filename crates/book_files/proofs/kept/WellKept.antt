@@ -1,6 +1,6 @@
 -- The test whether a book is well kept, part by part: what a turn over its files decides, what each part does, and what the two loops of
 -- the test have decided so far. Assumes nothing.
-use Prim.Native.Nat.{ℕ, _+_, _-_, _≤_, _<_}
+use Prim.Native.Nat.{ℕ, _+_, _^_, _≤_, _<_}
 use mathlib.Core.Path.{_≡_, refl, sym, ap, subst⁻¹, _∙_}
 use mathlib.Core.List.{List, [], _∷_, _++_}
 use mathlib.Core.Bool.{Bool, true, false, not, cond, _&&_, and-false}
@@ -45,22 +45,24 @@ module _ (last : ℕ) {f : File} {left rest : List File} (e : left ≡ f ∷ res
 pub held-end : (last : ℕ) {left : List File} → left ≡ [] → heldKept last left ≡ true
 held-end last e = rw e
 
--- ---- the four totals as one number, which has 16 bits for each
+-- ---- the four totals as one number
 abbrev pub packedTotals : Waiting → ℕ
 packedTotals w = packed (w .review) (w .permit) (w .scheduled) (w .cancel)
 
+-- each total fits into its bits
 pub record Narrow (w : Waiting) : Type 0 where
-  pub review : w .review < 65536
-  pub permit : w .permit < 65536
-  pub dated : w .scheduled < 65536
-  pub cancel : w .cancel < 65536
+  pub review : w .review < 2 ^ 16
+  pub permit : w .permit < 2 ^ 16
+  pub dated : w .scheduled < 2 ^ 16
+  pub cancel : w .cancel < 2 ^ 16
 
+-- then the number says which four they are
 packed-same : {w v : Waiting} → Narrow w → Narrow v → packedTotals w ≡ packedTotals v → w ≡ v
 packed-same {w} {v} a b e =
-    let cancel : w .cancel ≡ v .cancel = omega (arith, a, b, e) in
-    let dated : w .scheduled ≡ v .scheduled = omega (arith, a, b, e, cancel) in
-    let permit : w .permit ≡ v .permit = omega (arith, a, b, e, cancel, dated) in
-    let review : w .review ≡ v .review = omega (arith, a, b, e, cancel, dated, permit) in
+    let cancel : w .cancel ≡ v .cancel = omega arith in
+    let dated : w .scheduled ≡ v .scheduled = omega arith in
+    let permit : w .permit ≡ v .permit = omega arith in
+    let review : w .review ≡ v .review = omega arith in
     λ i. record { review = review i; permit = permit i; scheduled = dated i; cancel = cancel i }
 
 -- ---- the parts
@@ -138,7 +140,7 @@ pub record UnusedSofar (b : Book) (i : ℕ) : Type 0 where
   pub decides : allOf fileBlank (drop i (b .files)) ≡ bookKept b
 
 module _ {b : Book} {n waiting last i : ℕ} (v : HeldSofar b n waiting last i) where
-  -- the totals are within a book's orders
+  -- the totals of the files passed are within a book's orders
   sofar-narrow : Narrow (waitingIn (take i (filesOf b)))
   sofar-narrow =
       let few = counts-none (take i (filesOf b)) (omega (arith, length-take i (filesOf b), v .within, v .few)) (v .passed) in
@@ -149,7 +151,7 @@ module _ {b : Book} {n waiting last i : ℕ} (v : HeldSofar b n waiting last i) 
         cancel = omega (arith, few .cancel .1);
       }
 
-  pub waiting-fits : waiting < 18446744073709551616
+  pub waiting-fits : waiting < 2 ^ 64
   waiting-fits = omega (arith, v .sum, sofar-narrow)
 
   -- a turn: the file at the place, and those after it

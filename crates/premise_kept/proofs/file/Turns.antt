@@ -1,33 +1,26 @@
 -- The turns of the test of a file: what the walk over its orders and the search through the later ones have decided and counted so far.
 -- Assumes nothing.
-use Prim.Native.Nat.{ℕ, _+_, _≤_, _<_}
+use Prim.Native.Nat.{ℕ, _+_, _^_, _≤_, _<_}
 use mathlib.Core.Path.{_≡_, refl, sym, ap, _∙_}
-use mathlib.Core.List.{List, [], _∷_}
+use mathlib.Core.List.{[], _∷_}
 use mathlib.Core.Bool.{Bool, true, false, not, _&&_}
 use native.Mathlib.Omega.{arith}
 use lib.Dec.{ltb}
 use lib.ListN.{length, drop, getD, length-take}
 use borrow.Author.Tests.{eq-eqb, ne-eqb, ltb-true, ltb-false}
 use Rattle.lists.specs.Search.{anyOf, allOf, countOf}
-use Rattle.lists.proofs.Find.{drop-part, part-none, any-hit, any-next, any-end, all-miss, all-next, all-end}
-use Rattle.lists.proofs.Find.{count-next, count-most}
+use Rattle.lists.proofs.Find.{drop-part, part-none, any-hit, any-next, any-end, all-miss, all-next, all-end, count-most}
 use Rattle.lists.proofs.TestLaws.{and-right, and-other}
 use Rattle.premise.specs.declared.Order.{Order}
 use Rattle.premise.specs.declared.File.{File}
 use Rattle.premise.specs.Orders.{mostOrders, inReview, permitPending, scheduled, cancelPending, hasStatus, blank, held}
 use Rattle.premise.specs.WellKept.{orderKept, distinct, isBlank, fileKept}
 use Rattle.premise_kept.specs.declared.file.FileTest.{FileTest}
-use Rattle.premise_kept.specs.Test.{packed, placeValue, passed}
+use Rattle.premise_kept.specs.Test.{packedCounts, passed}
 use Rattle.premise_kept.proofs.file.Distinct.{has, risesFrom, rising-distinct, rises-next, rises-end}
 use Rattle.premise_kept.proofs.file.Distinct.{distinct-miss, distinct-next, distinct-end}
 use Rattle.premise_kept.proofs.file.Whole.{headKept, head-few, kept-no-orders, kept-no-references, kept-rest}
 use Rattle.premise_kept.proofs.unused.Zero.{PlacesLeft}
-
--- how many of some orders are in each open status
-abbrev packedOf : List Order → ℕ
-packedOf os =
-    packed (countOf (hasStatus inReview) os) (countOf (hasStatus permitPending) os) (countOf (hasStatus scheduled) os)
-    (countOf (hasStatus cancelPending) os)
 
 -- the walk over the orders held: the tests of those left give what the tests of all of them give, and what has been counted, with those
 -- left, is what the file holds
@@ -38,7 +31,7 @@ pub record HeldSofar (f : File) (n waiting last : ℕ) (rising : Bool) (i : ℕ)
   pub head : not (headKept f) ≡ false
   pub orders : allOf orderKept (drop i (held f)) ≡ allOf orderKept (held f)
   pub rises : (rising && risesFrom last (drop i (held f))) ≡ risesFrom 0 (held f)
-  pub counted : waiting + packedOf (drop i (held f)) ≡ packedOf (held f)
+  pub counted : waiting + packedCounts (drop i (held f)) ≡ packedCounts (held f)
 
 -- the search for equal references: that of the orders left gives what that of all of them gives
 abbrev pub PairsSofar : File → ℕ → Type 0
@@ -56,6 +49,9 @@ module _ {f : File} {n waiting last : ℕ} {rising : Bool} {i : ℕ} (v : HeldSo
   pub few : n ≤ mostOrders
   few = omega (arith, v .same, head-few f (v .head))
 
+  few-with : (status : ℕ) → countOf (hasStatus status) (held f) ≤ mostOrders
+  few-with status = omega (arith, count-most (hasStatus status) (held f), length-take (f .count) (f .orders), v .eight)
+
   order-at : (j : ℕ) → j < n → drop j (held f) ≡ getD (f .orders) j blank ∷ drop (j + 1) (held f)
   order-at j h = drop-part blank (f .orders) (f .count) j (omega (arith, v .same, v .eight, few)) (omega (arith, v .same))
 
@@ -70,25 +66,12 @@ module _ {f : File} {n waiting last : ℕ} {rising : Bool} {i : ℕ} (v : HeldSo
     pub order-not-kept : orderKept o ≡ false → false ≡ fileKept f
     order-not-kept q = sym (kept-no-orders f (sym (v .orders) ∙ all-miss orderKept (order-at i h) q))
 
-    module _ {value : ℕ} (e : value ≡ placeValue o) where
-      counted-next : waiting + value + packedOf (drop (i + 1) (held f)) ≡ packedOf (held f)
-      counted-next =
-          omega (
-            arith,
-            v .counted,
-            e,
-            count-next (hasStatus inReview) (order-at i h),
-            count-next (hasStatus permitPending) (order-at i h),
-            count-next (hasStatus scheduled) (order-at i h),
-            count-next (hasStatus cancelPending) (order-at i h),
-          )
+    module _ {value : ℕ} (e : value ≡ packedCounts (o ∷ [])) where
+      counted-next : waiting + value + packedCounts (drop (i + 1) (held f)) ≡ packedCounts (held f)
+      counted-next = omega (arith, v .counted, e, ap packedCounts (order-at i h))
 
-      -- at most eight in a status
-      few-with : (status : ℕ) → countOf (hasStatus status) (held f) ≤ mostOrders
-      few-with status = omega (arith, count-most (hasStatus status) (held f), length-take (f .count) (f .orders), v .eight)
-
-      pub counted-few : waiting + value < 18446744073709551616
-      counted-few =
+      pub counted-fits : waiting + value < 2 ^ 64
+      counted-fits =
           omega (
             arith,
             counted-next,
@@ -130,8 +113,8 @@ module _ {f : File} {n waiting last : ℕ} {rising : Bool} {i : ℕ} (v : HeldSo
 
   -- ---- after the last order
   module _ (h : n ≤ i) where
-    all-counted : waiting ≡ packedOf (held f)
-    all-counted = sym (omega (arith, ap packedOf (none-after i h))) ∙ v .counted
+    all-counted : waiting ≡ packedCounts (held f)
+    all-counted = omega (arith, v .counted, ap packedCounts (none-after i h))
 
     pub counts : _≡_ {A = FileTest} (record { kept = true; waiting = waiting }) (passed f)
     unfolding passed

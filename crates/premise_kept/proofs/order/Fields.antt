@@ -25,29 +25,31 @@ day-or-none day = go (isDay day) refl (eqb day noDay) refl
 
 module _ (o : Order) where
   -- ---- the scheduled day
+  abbrev day : ℕ
+  day = o .scheduled
+
   abbrev undated : Bool
   undated = hasStatus inReview o || hasStatus permitPending o
 
   abbrev dated : Bool
   dated = hasStatus scheduled o || hasStatus complete o
 
-  -- no status takes none and a day
+  -- no status is both
   not-dated : undated ≡ true → dated ≡ false
   not-dated e =
       or-either (hasStatus inReview o) (hasStatus permitPending o) e (λ q. rw (eqb-true (o .status) inReview q))
       (λ q. rw (eqb-true (o .status) permitPending q))
 
-  pub day-fits : ((isDay (o .scheduled) && not undated) || (eqb (o .scheduled) noDay && not dated)) ≡ dayFits o
+  pub day-fits : ((isDay day && not undated) || (eqb day noDay && not dated)) ≡ dayFits o
   day-fits = go undated refl
     where
-      given : (d : Bool) → ((isDay (o .scheduled) && true) || (eqb (o .scheduled) noDay && not d))
-          ≡ cond d (isDay (o .scheduled)) (leb (o .scheduled) noDay)
-      given true = rw (and-true (isDay (o .scheduled)), and-false (eqb (o .scheduled) noDay), or-false (isDay (o .scheduled)))
-      given false =
-          rw (and-true (isDay (o .scheduled)), and-true (eqb (o .scheduled) noDay)) (day-or-none (o .scheduled))
-      go : (u : Bool) → undated ≡ u → ((isDay (o .scheduled) && not u) || (eqb (o .scheduled) noDay && not dated))
-          ≡ cond u (eqb (o .scheduled) noDay) (cond dated (isDay (o .scheduled)) (leb (o .scheduled) noDay))
-      go true e = rw (not-dated e, and-false (isDay (o .scheduled)), and-true (eqb (o .scheduled) noDay))
+      given : (d : Bool) → ((isDay day && true) || (eqb day noDay && not d)) ≡ cond d (isDay day) (leb day noDay)
+      given true = rw (and-true (isDay day), and-false (eqb day noDay), or-false (isDay day))
+      given false = rw (and-true (isDay day), and-true (eqb day noDay)) (day-or-none day)
+
+      go : (u : Bool) → undated ≡ u
+          → ((isDay day && not u) || (eqb day noDay && not dated)) ≡ cond u (eqb day noDay) (cond dated (isDay day) (leb day noDay))
+      go true e = rw (not-dated e, and-false (isDay day), and-true (eqb day noDay))
       go false e = given dated
 
   -- ---- the days in Cancel Pending

@@ -1,7 +1,8 @@
--- Laws of unused places. A place of the book: a field besides its orders that is not zero fails the test, and else the places decide. The
--- places of a file, looked at one after another. Assumes nothing.
+-- Laws of unused places. A place of a file: it is unused exactly if its wide fields and the sum of its narrow ones are zero. A place of the
+-- book: a field besides its orders that is not zero fails the test, and else the places decide. The places of a file, looked at one after
+-- another. Assumes nothing.
 use Prim.Native.Nat.{ℕ, _+_, _≤_, _<_}
-use mathlib.Core.Path.{_≡_, refl, sym, ap, _∙_}
+use mathlib.Core.Path.{_≡_, refl, sym, _∙_}
 use mathlib.Core.List.{List, [], _∷_}
 use mathlib.Core.Bool.{Bool, true, false, not, _&&_}
 use native.Mathlib.Omega.{arith}
@@ -42,9 +43,7 @@ module _ (o : Order) {narrow : ℕ}
       )
 
   blank-sum : isBlank o ≡ true → wideAndSum ≡ true
-  blank-sum e = 
-      let b = blank-is o e in
-      rw (ap (λ (x : Order). x .submitter) b, ap (λ (x : Order). x .counter) b, sum, b)
+  blank-sum e = rw (sum, blank-is o e)
 
   pub blank-by-sum : wideAndSum ≡ isBlank o
   blank-by-sum = go wideAndSum refl (isBlank o) refl

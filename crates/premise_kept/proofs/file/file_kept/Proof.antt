@@ -18,7 +18,7 @@ use Rattle.premise_kept.proofs.file.Turns.{
   LaterSofar,
   few,
   order-not-kept,
-  counted-few,
+  counted-fits,
   order-passes,
   order-left,
   reference-again,
@@ -32,8 +32,7 @@ use Rattle.premise_kept.proofs.file.file_kept.Statement.{statement}
 use Rattle.premise_kept.proofs.file.file_kept.Tie as tie
 
 abbrev Inv-held : tie.InvT-held
-Inv-held file n waiting₀ last₀ rising₀ i₀ waiting last rising i =
-    HeldSofar file n waiting last rising i
+Inv-held file n waiting₀ last₀ rising₀ i₀ waiting last rising i = HeldSofar file n waiting last rising i
 
 abbrev μ-held : tie.MeasureT-held
 μ-held file n waiting₀ last₀ rising₀ i₀ waiting last rising i = n - i
@@ -104,7 +103,7 @@ place-value-requires c κs = search needs
 add-waiting : tie.Need-add-waiting Inv-held μ-held Inv-later μ-later Inv-pairs μ-pairs Inv-unused μ-unused
 add-waiting c =
     let w = c .before .before .before .before in
-    record { fits = counted-few (w .before .held .inv) (w .held-test .taken) (c .place-value .ensures) }
+    record { fits = counted-fits (w .before .held .inv) (w .held-test .taken) (c .place-value .ensures) }
 
 add-i : tie.Need-add-i Inv-held μ-held Inv-later μ-later Inv-pairs μ-pairs Inv-unused μ-unused
 add-i c =
@@ -120,7 +119,8 @@ held-again c =
     let p = c .before in
     let e = p .before in
     let w = e .before .before .before in
-    order-passes (w .before .held .inv) (w .held-test .taken) (p .place-value .ensures) (sym (e .before .order-kept .ensures) ∙ not-false _ (e .if2 .left))
+    order-passes (w .before .held .inv) (w .held-test .taken) (p .place-value .ensures)
+    (sym (e .before .order-kept .ensures) ∙ not-false _ (e .if2 .left))
 
 pairs-holds : tie.Need-pairs-holds Inv-held μ-held Inv-later μ-later Inv-pairs μ-pairs Inv-unused μ-unused
 pairs-holds c = refl

@@ -13,24 +13,21 @@ use Rattle.premise.specs.Orders.{blankFile}
 use Rattle.book.specs.declared.Book.{Book}
 use Rattle.book.specs.Totals.{waitingIn}
 use Rattle.book.specs.Book.{mostFiles, filesOf, bookOf}
-use Rattle.book.specs.Laws.{TidyBook, numbersOf}
+use Rattle.book.specs.Laws.{TidyBook}
 use Rattle.book.proofs.Kept.{count-is}
-use Rattle.book_files.proofs.Numbers.{number-stored}
 use Rattle.book_files.proofs.Tidy.{past, withPlaces, spare, spare-length, spare-drop, spare-at, book-is, split, length-files, unused}
 
 -- the places that are to be left
 abbrev shrunk : Book → ℕ → List File
 shrunk b at = removed at (filesOf b) ++ spare (mostFiles - (b .count - 1))
 
--- The places before the one reached hold what they are to hold, the others what they held, and the premise numbers are those of the places
--- as they stand.
-pub record Closing (b : Book) (at : ℕ) (c : Book) (numbers : List ℕ) (i : ℕ) : Type 0 where
+-- The places before the one reached hold what they are to hold, the others what they held.
+pub record Closing (b : Book) (at : ℕ) (c : Book) (i : ℕ) : Type 0 where
   pub tidy : TidyBook b
   pub within : at < b .count
   pub from : at ≤ i
   pub upto : i < b .count
   pub here : c ≡ withPlaces b (b .count) (over i (shrunk b at) (b .files))
-  pub own : numbers ≡ numbersOf c
 
 module _ (b : Book) (tidy : TidyBook b) (at : ℕ) (h : at < b .count) where
   inside : at ≤ length (filesOf b)
@@ -62,8 +59,8 @@ module _ (b : Book) (tidy : TidyBook b) (at : ℕ) (h : at < b .count) where
       ∙ ap spare m
       ∙ sym (ap (λ (k : ℕ). drop k (b .files)) e ∙ unused b tidy)
 
-  pub close-none : {numbers : List ℕ} → numbers ≡ numbersOf b → Closing b at b numbers at
-  close-none own =
+  pub close-none : Closing b at b at
+  close-none =
       record {
         tidy = tidy;
         within = h;
@@ -75,10 +72,9 @@ module _ (b : Book) (tidy : TidyBook b) (at : ℕ) (h : at < b .count) where
             (over-start past (shrunk b at) (b .files) at
             (removed-take past at (filesOf b) (spare (mostFiles - (b .count - 1))) (spare (mostFiles - b .count)) inside
             ∙ ap (take at) (sym (split b tidy)))));
-        own = own;
       }
 
-module _ {b : Book} {at : ℕ} {c : Book} {numbers : List ℕ} {i : ℕ} (o : Closing b at c numbers i) where
+module _ {b : Book} {at : ℕ} {c : Book} {i : ℕ} (o : Closing b at c i) where
   long : length (shrunk b at) ≡ mostFiles
   long = shrunk-length b (o .tidy) at (o .within)
 
@@ -92,7 +88,7 @@ module _ {b : Book} {at : ℕ} {c : Book} {numbers : List ℕ} {i : ℕ} (o : Cl
 
   -- a turn stores the next place's file
   pub close-more : i < b .count - 1 → {g : File} → g ≡ getD (c .files) (i + 1) past
-      → Closing b at (withPlaces c (c .count) (set (c .files) i g)) (set numbers i (g .premise)) (i + 1)
+      → Closing b at (withPlaces c (c .count) (set (c .files) i g)) (i + 1)
   close-more h {g} e =
       record {
         tidy = o .tidy;
@@ -105,7 +101,6 @@ module _ {b : Book} {at : ℕ} {c : Book} {numbers : List ℕ} {i : ℕ} (o : Cl
             ∙ ap (λ (fs : List File). getD fs (i + 1) past) (split b (o .tidy))
             ∙ sym (removed-next past at (filesOf b) (spare (mostFiles - (b .count - 1))) (spare (mostFiles - b .count))
             (inside b (o .tidy) at (o .within)) i (o .from) (omega (arith, h, count-is b (o .tidy)))));
-        own = number-stored c numbers (o .own) i g;
       }
 
   -- the last place that was used is made unused: the file is taken out, and moves no total
@@ -125,8 +120,3 @@ module _ {b : Book} {at : ℕ} {c : Book} {numbers : List ℕ} {i : ℕ} (o : Cl
         (over-end past (shrunk b at) (b .files) (b .count - 1 + 1) (shrunk-drop b (o .tidy) at (o .within)))
         ∙ book-is (b .today) (b .count - 1) (b .waiting) (shrunk b at) (removed at (filesOf b)) (sym count) totals
         (ap (λ (n : ℕ). removed at (filesOf b) ++ spare (mostFiles - n)) (sym count))
-
-    pub close-own : set numbers (b .count - 1) 0 ≡ numbersOf (withPlaces c (b .count - 1) (set (c .files) (b .count - 1) none))
-    close-own =
-        ap (set numbers (b .count - 1)) (sym (ap (λ (f : File). f .premise) blank))
-        ∙ number-stored c numbers (o .own) (b .count - 1) none

@@ -4,5 +4,6 @@ pub mod Marking
 pub mod NoneWaiting
 pub mod Opening
 pub mod Playing
+pub mod Seeking
 pub mod Tasks
 pub mod Ways

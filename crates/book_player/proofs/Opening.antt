@@ -12,18 +12,16 @@ use Rattle.premise.specs.declared.File.{File}
 use Rattle.book.specs.declared.Book.{Book}
 use Rattle.book.specs.Totals.{waitingIn}
 use Rattle.book.specs.Book.{mostFiles, filesOf, bookOf}
-use Rattle.book.specs.Laws.{TidyBook, numbersOf}
+use Rattle.book.specs.Laws.{TidyBook}
 use Rattle.book.proofs.Kept.{count-is}
-use Rattle.book_files.proofs.Numbers.{number-stored}
 use Rattle.book_files.proofs.Tidy.{past, withPlaces, spare, spare-length, spare-drop, book-is, split, length-files}
 
 -- the places that are to be left
 abbrev grown : Book → ℕ → File → List File
 grown b at f = inserted at f (filesOf b) ++ spare (mostFiles - (b .count + 1))
 
--- The places before the one reached hold what they are to hold, the others what they held; the file carried is for the place reached;
--- and the premise numbers are those of the places as they stand.
-pub record Opening (b : Book) (at : ℕ) (f : File) (c : Book) (numbers : List ℕ) (carry : File) (i : ℕ) : Type 0 where
+-- The places before the one reached hold what they are to hold, the others what they held; the file carried is for the place reached.
+pub record Opening (b : Book) (at : ℕ) (f : File) (c : Book) (carry : File) (i : ℕ) : Type 0 where
   pub tidy : TidyBook b
   pub within : at ≤ b .count
   pub free : b .count < mostFiles
@@ -31,7 +29,6 @@ pub record Opening (b : Book) (at : ℕ) (f : File) (c : Book) (numbers : List �
   pub upto : i ≤ b .count + 1
   pub here : c ≡ withPlaces b (b .count) (over i (grown b at f) (b .files))
   pub next : i ≤ b .count → carry ≡ getD (grown b at f) i past
-  pub own : numbers ≡ numbersOf c
 
 module _ (b : Book) (tidy : TidyBook b) (at : ℕ) (f : File) (h : at ≤ b .count) (free : b .count < mostFiles) where
   inside : at ≤ length (filesOf b)
@@ -57,8 +54,8 @@ module _ (b : Book) (tidy : TidyBook b) (at : ℕ) (f : File) (h : at ≤ b .cou
       ∙ spare-drop (mostFiles - b .count) 1
       ∙ ap spare e)
 
-  pub open-none : {numbers : List ℕ} → numbers ≡ numbersOf b → Opening b at f b numbers f at
-  open-none own =
+  pub open-none : Opening b at f b f at
+  open-none =
       record {
         tidy = tidy;
         within = h;
@@ -72,17 +69,15 @@ module _ (b : Book) (tidy : TidyBook b) (at : ℕ) (f : File) (h : at ≤ b .cou
             (inserted-take past at (filesOf b) (spare (mostFiles - (b .count + 1))) (spare (mostFiles - b .count)) inside f
             ∙ ap (take at) (sym (split b tidy)))));
         next = λ _. sym (inserted-at past at (filesOf b) (spare (mostFiles - (b .count + 1))) [] inside f);
-        own = own;
       }
 
-module _ {b : Book} {at : ℕ} {f : File} {c : Book} {numbers : List ℕ} {carry : File} {i : ℕ}
-    (o : Opening b at f c numbers carry i) where
+module _ {b : Book} {at : ℕ} {f : File} {c : Book} {carry : File} {i : ℕ} (o : Opening b at f c carry i) where
   long : length (grown b at f) ≡ mostFiles
   long = grown-length b (o .tidy) at f (o .within) (o .free)
 
   -- a turn stores the file carried, and carries on the one that stood there
   pub open-more : i ≤ b .count
-      → Opening b at f (withPlaces c (c .count) (set (c .files) i carry)) (set numbers i (carry .premise)) (getD (c .files) i past) (i + 1)
+      → Opening b at f (withPlaces c (c .count) (set (c .files) i carry)) (getD (c .files) i past) (i + 1)
   open-more h =
       record {
         tidy = o .tidy;
@@ -101,7 +96,6 @@ module _ {b : Book} {at : ℕ} {f : File} {c : Book} {numbers : List ℕ} {carry
             ∙ ap (λ (fs : List File). getD fs i past) (split b (o .tidy))
             ∙ sym (inserted-next past at (filesOf b) (spare (mostFiles - (b .count + 1))) (spare (mostFiles - b .count))
             (inside b (o .tidy) at f (o .within) (o .free)) f i (o .from) (omega (arith, more, count-is b (o .tidy))));
-        own = number-stored c numbers (o .own) i carry;
       }
 
   -- all places have been stored to: the file is put in, and moves no total

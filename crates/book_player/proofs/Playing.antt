@@ -22,7 +22,7 @@ use Rattle.book.specs.declared.Book.{Book}
 use Rattle.book.specs.Book.{bookKept}
 use Rattle.book.specs.Calls.{noticeBytes, Result}
 use Rattle.book.specs.CallsInRow.{recordsOf, called, Course, stopped, callsInRow, answersOf, countsOf, noticesOf, lastAnswer, Noted, Plays}
-use Rattle.book.specs.Laws.{BookKept, numbersOf}
+use Rattle.book.specs.Laws.{BookKept}
 use Rattle.book.proofs.Emits.{writes-emits}
 use Rattle.book.proofs.Kept.{book-kept-means}
 use Rattle.book.proofs.CallsInRow.{records-over, records-next, lent-record, called-few, called-keeps, notices-parts}
@@ -73,11 +73,9 @@ dropped tape from to ends = drop-drop recordLength from tape ∙ go (leb (from +
 
 -- ---- what holds between two records; the first lists of each pair are the buffers as they were lent
 pub record Playing (calendar tape : List ℕ) (b : Book) (answers₀ counts₀ notices₀ answers counts notices : List ℕ) (c : Book)
-    (numbers : List ℕ)
     (played sent from : ℕ) (last : Answer) : Type 0 where
   pub results : List Result
   pub kept : bookKept c ≡ true
-  pub own : numbers ≡ numbersOf c
   pub fit : length answers₀ ≤ length counts₀
   pub few : played ≤ length answers₀
   pub room : recordLength * sent ≤ length notices₀
@@ -90,16 +88,15 @@ pub record Playing (calendar tape : List ℕ) (b : Book) (answers₀ counts₀ n
       ≡ behind results
       (callsInRow calendar (length notices₀ - recordLength * sent) c (recordsOf (length answers₀ - played) (drop from tape)))
 
-pub playing-none : (calendar tape : List ℕ) (b : Book) (answers counts notices numbers : List ℕ) → BookKept b
-    → length answers ≤ length counts → numbers ≡ numbersOf b
-    → Playing calendar tape b answers counts notices answers counts notices b numbers 0 0 0 Accepted
-playing-none calendar tape b answers counts notices numbers k fit own =
+pub playing-none : (calendar tape : List ℕ) (b : Book) (answers counts notices : List ℕ) → BookKept b
+    → length answers ≤ length counts
+    → Playing calendar tape b answers counts notices answers counts notices b 0 0 0 Accepted
+playing-none calendar tape b answers counts notices k fit =
     let all : length notices - recordLength * 0 ≡ length notices = omega arith in
     let most : length answers - 0 ≡ length answers = omega arith in
     record {
       results = [];
       kept = book-kept-means b .1 k;
-      own = own;
       fit = fit;
       few = omega arith;
       room = omega arith;
@@ -111,9 +108,9 @@ playing-none calendar tape b answers counts notices numbers k fit own =
       rest = ap₂ (λ (free most : ℕ). callsInRow calendar free b (recordsOf most tape)) (sym all) (sym most);
     }
 
-module _ {calendar tape : List ℕ} {b : Book} {answers₀ counts₀ notices₀ answers counts notices : List ℕ} {c : Book} {numbers : List ℕ}
+module _ {calendar tape : List ℕ} {b : Book} {answers₀ counts₀ notices₀ answers counts notices : List ℕ} {c : Book}
     {played sent from : ℕ} {last : Answer}
-    (p : Playing calendar tape b answers₀ counts₀ notices₀ answers counts notices c numbers played sent from last) where
+    (p : Playing calendar tape b answers₀ counts₀ notices₀ answers counts notices c played sent from last) where
   noted : length (answersOf (p .results)) ≡ played
   noted = length-map (p .results) (λ (x : Result). number (x .answer)) ∙ sym (p .count)
 
@@ -180,8 +177,8 @@ module _ {calendar tape : List ℕ} {b : Book} {answers₀ counts₀ notices₀ 
 
   -- ---- a record is left and finds room
   module _ (more : played < length answers) (h : from < length tape) (room : noticeBytes ≤ length notices - recordLength * sent) where
-    pub standing : Standing c numbers sent notices
-    standing = record { kept = p .kept; own = p .own; room = room }
+    pub standing : Standing c sent notices
+    standing = record { kept = p .kept; room = room }
 
     module _ (to : ℕ) {o : Outcome} (made : Made calendar c (take (to - from) (drop from tape)) sent notices o) where
       abbrev bytes : List ℕ
@@ -219,7 +216,7 @@ module _ {calendar tape : List ℕ} {b : Book} {answers₀ counts₀ notices₀ 
       pub playing-more : to ≡ min (from + recordLength) (length tape) → {answer gave : ℕ} → answer ≡ number (o .answer)
           → gave ≡ o .sent - sent
           → Playing calendar tape b answers₀ counts₀ notices₀ (set answers played answer) (set counts played gave) (o .buffer) (o .book)
-          (o .numbers) (played + 1) (o .sent) to (o .answer)
+          (played + 1) (o .sent) to (o .answer)
       playing-more ends {answer} {gave} is many =
           let results = p .results ++ (result ∷ []) in
           let others : Course = callsInRow calendar (length notices₀ - recordLength * o .sent) (o .book)
@@ -229,7 +226,6 @@ module _ {calendar tape : List ℕ} {b : Book} {answers₀ counts₀ notices₀ 
           record {
             results = results;
             kept = subst⁻¹ (λ (x : Book). bookKept x ≡ true) (made .book) (called-keeps calendar c bytes (p .kept));
-            own = made .own;
             fit = p .fit;
             few = omega (arith, more, answers-length);
             room = omega (arith, sent-more, called-few calendar c bytes, room, notices-length, p .room);

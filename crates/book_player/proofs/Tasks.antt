@@ -1,12 +1,12 @@
 -- What is known of a record by what is to be done with it. Assumes nothing.
 use Prim.Native.Nat.{ℕ, _+_, _<_}
-use mathlib.Core.Path.{_≡_, refl, sym, ap, ap₂, subst⁻¹, _∙_}
+use mathlib.Core.Path.{_≡_, refl, sym, ap, ap₂, subst, subst⁻¹, _∙_}
 use mathlib.Core.List.{List, []}
 use mathlib.Core.Option.{Option, none, some}
 use mathlib.Core.Bool.{Bool, true, false, cond, not, _&&_}
 use native.Mathlib.Omega.{arith}
 use lib.Dec.{eqb}
-use lib.ListN.{length, take, getD, replicate}
+use lib.ListN.{length, getD, replicate}
 use lib.Seq.{getD-take}
 use borrow.Author.Tests.{eqb-true, eqb-false, eq-eqb, ne-eqb}
 use Rattle.lists.specs.Search.{anyOf}
@@ -24,39 +24,34 @@ use Rattle.premise.specs.Orders.{isOpen, held}
 use Rattle.premise.specs.Steps.{is, newFile}
 use Rattle.premise.specs.Refusals.{isHeld, needsPremise}
 use Rattle.premise.specs.OnePremise.{Given, refused, step, givenOn}
-use Rattle.premise.proofs.KindsOf.{else-mark}
+use Rattle.premise.proofs.KindsOf.{else-mark, needs-no-mark}
 use Rattle.premise_steps.proofs.CreateRetire.{create-held, create-done, retire-open, retire-done}
 use Rattle.book.specs.declared.Book.{Book}
 use Rattle.book.specs.Book.{mostFiles, filesOf, bookOf, fileFor, withFile, bookKept}
 use Rattle.book.specs.Calls.{noticeBytes, premiseState, Result, refusal, meetsRow6, markedBook, inBook}
 use Rattle.book.specs.CallsInRow.{called}
-use Rattle.book.specs.Laws.{BookKept, numbersOf}
+use Rattle.book.specs.Laws.{BookKept}
 use Rattle.book.proofs.Files.{Rising, rises-rising}
 use Rattle.book.proofs.FilesPut.{found-at}
+use Rattle.book.proofs.Keeps.{has-premise}
 use Rattle.book.proofs.Kept.{count-is, book-kept-means}
 use Rattle.book.proofs.Rows.{not-new}
 use Rattle.book.proofs.ByReading.{call-malformed, call-not-held, call-on-mark}
 use Rattle.book.proofs.ByPremise.{call-full, call-one, call-one-refused}
 use Rattle.book.proofs.CallsInRow.{called-room}
-use Rattle.book_files.specs.declared.premise_numbers.Place.{Place}
-use Rattle.book_files.specs.declared.premise_numbers.Place.the-variants.{Held, Free}
-use Rattle.book_files.specs.Numbers.{placeOfPremise}
 use Rattle.book_files.specs.Places.{before}
 use Rattle.book_files.proofs.Before.{Here, before-within, file-elsewhere}
-use Rattle.book_files.proofs.Places.{KnownPlace, Elsewhere, place-in-book}
+use Rattle.book_files.proofs.Places.{Elsewhere}
 use Rattle.book_files.proofs.PutIn.{put-elsewhere}
 use Rattle.book_files.proofs.TakenOut.{taken-here}
 use Rattle.book_files.proofs.Tidy.{past}
+use Rattle.book_player.specs.declared.dispatch.Task.{Task}
 use Rattle.book_player.specs.declared.dispatch.Task.the-variants.{Refused, Opens, Closes, OnFile, NextDay}
-use Rattle.book_player.specs.Tasks.{onNew, onHeld, onMark, taskIn, taskOf, Known, KnownHeld, KnownCloses}
+use Rattle.book_player.specs.Tasks.{premiseIn, onNew, onHeld, onMark, taskOf, Known, KnownHeld, KnownCloses}
+use Rattle.book_player.proofs.Seeking.{Sought}
 
 abbrev lent : List ℕ
 lent = replicate noticeBytes 0
-
-pub task-read : (bytes : List ℕ) (today : ℕ) (premises : List ℕ) (count : ℕ) (d : Reading) → reading bytes ≡ d
-    → taskOf bytes today premises count ≡ taskIn today (take count premises) count d
-unfolding taskOf
-task-read bytes today premises count d e = ap (taskIn today (take count premises) count) e
 
 module _ (bytes : List ℕ) (b : Book) (well : bookKept b ≡ true) where
   kept : BookKept b
@@ -180,21 +175,30 @@ module _ (bytes : List ℕ) (b : Book) (well : bookKept b ≡ true) where
                   ∙ ap {B = Result} (λ (c : Book). record { answer = Accepted; notices = []; book = c }) put-there;
             }
 
-    -- ---- by what is found
-    of-new : is kindCreate r ≡ true → (p : Place) → KnownPlace (r .premise) 0 (filesOf b) p → Known bytes b past (onNew r (b .count) p)
-    of-new create (Held at) k = create-refused at (omega (arith, k .0)) (k .1) create
-    of-new create (Free at) k =
-        let kind = eqb-true (r .kind) kindCreate create in
-        let place : at ≡ before (r .premise) (filesOf b) = omega (arith, k .0) in
-        by-test (Known bytes b past) (eqb (b .count) mostFiles) (Refused BookFull) (Opens at r) (full at place (k .1) kind)
-        (opens at place (k .1) kind)
+    -- ---- by what is found: the premise is held exactly if the number at its place is its own
+    module _ {at there : ℕ} (found-there : Sought (r .premise) b at there) where
+      here : is kindDayMark r ≡ false → eqb there (r .premise) ≡ true → Here past (r .premise) (filesOf b)
+      here other own = found-there .held (has-premise r (says bytes r e .formed) other) (eqb-true there (r .premise) own)
 
-    of-held : needsPremise r ≡ true → (p : Place) → KnownPlace (r .premise) 0 (filesOf b) p → Known bytes b past (onHeld r p)
-    of-held needs (Held at) k =
-        let place : at ≡ before (r .premise) (filesOf b) = omega (arith, k .0) in
-        by-test (Known bytes b past) (is kindRetire r) (Closes at) (OnFile at r)
-        (λ retire. closes at place (k .1) (eqb-true (r .kind) kindRetire retire)) (stands at place (k .1) needs)
-    of-held needs (Free at) k = needs-refused at (omega (arith, k .0)) (k .1) needs
+      out : eqb there (r .premise) ≡ false → Elsewhere (r .premise) (filesOf b)
+      out other = found-there .free (eqb-false there (r .premise) other)
+
+      of-new : is kindCreate r ≡ true → Known bytes b past (onNew r (b .count) at there)
+      of-new create =
+          let kind = eqb-true (r .kind) kindCreate create in
+          by-test (Known bytes b past) (eqb there (r .premise)) (Refused PremiseHeld)
+          (cond (eqb (b .count) mostFiles) (Refused BookFull) (Opens at r))
+          (λ own. create-refused at (found-there .place) (here (ne-eqb (r .kind) kindDayMark (λ q. omega (arith, q, kind))) own) create)
+          (λ other. by-test (Known bytes b past) (eqb (b .count) mostFiles) (Refused BookFull) (Opens at r)
+          (full at (found-there .place) (out other) kind) (opens at (found-there .place) (out other) kind))
+
+      of-held : needsPremise r ≡ true → Known bytes b past (onHeld r at there)
+      of-held needs =
+          by-test (Known bytes b past) (eqb there (r .premise)) (cond (is kindRetire r) (Closes at) (OnFile at r)) (Refused NoSuchPremise)
+          (λ own. by-test (Known bytes b past) (is kindRetire r) (Closes at) (OnFile at r)
+          (λ retire. closes at (found-there .place) (here (needs-no-mark r needs) own) (eqb-true (r .kind) kindRetire retire))
+          (stands at (found-there .place) (here (needs-no-mark r needs) own) needs))
+          (λ other. needs-refused at (found-there .place) (out other) needs)
 
     -- ---- a day mark
     of-mark : is kindDayMark r ≡ true → Known bytes b past (onMark (b .today) (r .day))
@@ -207,20 +211,19 @@ module _ (bytes : List ℕ) (b : Book) (well : bookKept b ≡ true) where
         (λ next. record { result = λ calendar. by-day calendar true next })
         (λ other. record { result = λ calendar. by-day calendar false other })
 
-  module _ (premises : List ℕ) (same : premises ≡ numbersOf b) where
-    of-reading : (d : Reading) → reading bytes ≡ d → Known bytes b past (taskIn (b .today) (take (b .count) premises) (b .count) d)
-    of-reading Malformed e = record { result = λ calendar. call-malformed calendar b bytes lent well called-room e }
-    of-reading (Says r) e =
-        let there : Place = placeOfPremise (r .premise) (take (b .count) premises) in
-        let known = place-in-book (r .premise) b premises same in
-        by-test (Known bytes b past) (is kindCreate r) (onNew r (b .count) there)
-        (cond (needsPremise r) (onHeld r there) (onMark (b .today) (r .day)))
-        (λ create. of-new r e create there known)
-        (λ other. by-test (Known bytes b past) (needsPremise r) (onHeld r there) (onMark (b .today) (r .day))
-        (λ needs. of-held r e needs there known)
-        (λ neither. of-mark r e (else-mark r (says bytes r e .formed) other neither)))
+  of-reading : {at there : ℕ} (d : Reading) → reading bytes ≡ d → Sought (premiseIn d) b at there
+      → Known bytes b past (taskOf (b .today) (b .count) at there d)
+  of-reading Malformed e s = record { result = λ calendar. call-malformed calendar b bytes lent well called-room e }
+  of-reading {at} {there} (Says r) e s =
+      by-test (Known bytes b past) (is kindCreate r) (onNew r (b .count) at there)
+      (cond (needsPremise r) (onHeld r at there) (onMark (b .today) (r .day)))
+      (λ create. of-new r e s create)
+      (λ other. by-test (Known bytes b past) (needsPremise r) (onHeld r at there) (onMark (b .today) (r .day))
+      (λ needs. of-held r e s needs)
+      (λ neither. of-mark r e (else-mark r (says bytes r e .formed) other neither)))
 
-    -- The dispatch on a well-kept book tells what is so.
-    pub task-known : Known bytes b past (taskOf bytes (b .today) premises (b .count))
-    task-known = subst⁻¹ (Known bytes b past) (task-read bytes (b .today) premises (b .count) (reading bytes) refl)
-        (of-reading (reading bytes) refl)
+  -- The dispatch on a well-kept book tells what is so.
+  pub task-known : {d : Reading} → d ≡ reading bytes → {premise at there : ℕ} → premise ≡ premiseIn d → Sought premise b at there
+      → {task : Task} → task ≡ taskOf (b .today) (b .count) at there d → Known bytes b past task
+  task-known {d} read {at = at} {there = there} names s done =
+      subst⁻¹ (Known bytes b past) done (of-reading d (sym read) (subst (λ (n : ℕ). Sought n b at there) names s))

@@ -5,12 +5,11 @@ use mathlib.Core.List.{List, []}
 use mathlib.Core.Option.{some}
 use mathlib.Core.Bool.{Bool, true, false, cond}
 use native.Mathlib.Omega.{arith}
-use lib.ListN.{length, getD, set, replicate, length-map}
+use lib.ListN.{length, getD, set, replicate}
 use lib.Seq.{getD-take}
 use Rattle.lists.specs.Search.{anyOf}
 use Rattle.lists.specs.Shift.{inserted, removed}
 use Rattle.lists.proofs.SearchLaws.{each-at}
-use Rattle.days.specs.Days.{lastDay}
 use Rattle.records.specs.declared.Record.{Record}
 use Rattle.records.specs.Layout.{recordLength}
 use Rattle.records.proofs.Readings.{says}
@@ -32,35 +31,31 @@ use Rattle.book.specs.Totals.{moved, Counts}
 use Rattle.book.specs.Book.{mostFiles, filesOf, bookOf, bookKept}
 use Rattle.book.specs.Calls.{noticeBytes, Result, refusal}
 use Rattle.book.specs.CallsInRow.{called}
-use Rattle.book.specs.Laws.{BookKept, StoresFile, numbersOf}
+use Rattle.book.specs.Laws.{BookKept, StoresFile}
 use Rattle.book.proofs.Kept.{count-is, book-kept-means}
 use Rattle.book.proofs.OnHeld.{call-on-held}
-use Rattle.book.proofs.ByReading.{mark-keeps-numbers}
 use Rattle.book.proofs.CallsInRow.{called-room}
-use Rattle.book_files.proofs.Tidy.{past, withTotals, withPlaces, length-files}
+use Rattle.book_files.proofs.Tidy.{past, withTotals, withPlaces}
 use Rattle.book_files.proofs.Moves.{place-counted, stored-totals}
 use Rattle.book_player.specs.declared.dispatch.Task.{Task}
 use Rattle.book_player.specs.declared.dispatch.Task.the-variants.{Refused, Opens, Closes, NextDay}
 use Rattle.book_player.specs.declared.dispatch.Task.the-variants as variant
-use Rattle.book_player.specs.Tasks.{taskOf, Known, KnownOpens, KnownCloses, KnownHeld}
-use Rattle.book_player.proofs.Closing.{Closing, close-none, close-book, close-own}
+use Rattle.book_player.specs.Tasks.{Known, KnownOpens, KnownCloses, KnownHeld}
+use Rattle.book_player.proofs.Closing.{Closing, close-none, close-book}
 use Rattle.book_player.proofs.Marking.{Asked, Marking, dated, mark-asks, mark-book, mark-wrote}
 use Rattle.book_player.proofs.NoneWaiting.{NoneWaits, totals-put-in, totals-taken-out}
 use Rattle.book_player.proofs.Opening.{Opening, open-none, open-book}
-use Rattle.book_player.proofs.Tasks.{task-known}
 
--- a well-kept book, the premise numbers of its places, and a buffer in which some notices stand and those of any call find room
-pub record Standing (b : Book) (numbers : List ℕ) (standing : ℕ) (buffer : List ℕ) : Type 0 where
+-- a well-kept book, and a buffer in which some notices stand and those of any call find room
+pub record Standing (b : Book) (standing : ℕ) (buffer : List ℕ) : Type 0 where
   pub kept : bookKept b ≡ true
-  pub own : numbers ≡ numbersOf b
   pub room : noticeBytes ≤ length buffer - recordLength * standing
 
--- what stands after a record's call: its answer, how many notices stand then, the book with its premise numbers, and the buffer
+-- what stands after a record's call: its answer, how many notices stand then, the book and the buffer
 pub record Outcome : Type 0 where
   pub answer : Answer
   pub sent : ℕ
   pub book : Book
-  pub numbers : List ℕ
   pub buffer : List ℕ
 
 -- .. by whichever way it was made
@@ -68,7 +63,6 @@ pub record Made (calendar : List ℕ) (b : Book) (bytes : List ℕ) (standing : 
   pub answer : o .answer ≡ called calendar b bytes .answer
   pub book : o .book ≡ called calendar b bytes .book
   pub wrote : Writes standing buffer (o .buffer) (o .sent) (called calendar b bytes .notices)
-  pub own : o .numbers ≡ numbersOf (o .book)
 
 pub made-as : {calendar : List ℕ} {b : Book} {bytes : List ℕ} {standing : ℕ} {buffer : List ℕ} {o o' : Outcome} → o ≡ o'
     → Made calendar b bytes standing buffer o' → Made calendar b bytes standing buffer o
@@ -77,26 +71,18 @@ made-as {calendar} {b} {bytes} {standing} {buffer} e m = subst⁻¹ (Made calend
 -- what the call comes to, and what was done
 made-of : {calendar : List ℕ} {b : Book} {bytes : List ℕ} {standing : ℕ} {buffer : List ℕ} {o : Outcome} (result : Result)
     → called calendar b bytes ≡ result → o .answer ≡ result .answer → o .book ≡ result .book
-    → Writes standing buffer (o .buffer) (o .sent) (result .notices) → o .numbers ≡ numbersOf (o .book)
+    → Writes standing buffer (o .buffer) (o .sent) (result .notices)
     → Made calendar b bytes standing buffer o
-made-of {standing = standing} {buffer = buffer} {o = o} result e answer book wrote own =
+made-of {standing = standing} {buffer = buffer} {o = o} result e answer book wrote =
     record {
       answer = answer ∙ sym (ap (λ (x : Result). x .answer) e);
       book = book ∙ sym (ap (λ (x : Result). x .book) e);
       wrote = subst⁻¹ (λ (x : Result). Writes standing buffer (o .buffer) (o .sent) (x .notices)) e wrote;
-      own = own;
     }
 
-module _ {b : Book} {numbers : List ℕ} {standing : ℕ} {buffer : List ℕ} (t : Standing b numbers standing buffer) where
+module _ {b : Book} {standing : ℕ} {buffer : List ℕ} (t : Standing b standing buffer) where
   pub well-kept : BookKept b
   well-kept = book-kept-means b .0 (t .kept)
-
-  -- each place has its number
-  pub each-place : mostFiles ≡ length numbers
-  each-place = sym (ap length (t .own) ∙ length-map (b .files) (λ (f : File). f .premise) ∙ length-files b (well-kept .tidy))
-
-  pub task-asks : (b .today ≤ lastDay) × (b .count ≤ length numbers)
-  task-asks = (well-kept .today, omega (arith, each-place, well-kept .tidy .few))
 
   -- what a day mark asks
   pub day-asks : (calendar : List ℕ) (day : ℕ) → Asked calendar day b standing buffer
@@ -109,14 +95,14 @@ module _ {b : Book} {numbers : List ℕ} {standing : ℕ} {buffer : List ℕ} (t
       (each-at FileKept (filesOf b) at past (omega (arith, h, count-is b (well-kept .tidy))) (well-kept .files))
 
   -- ---- by what was found
-  module _ (bytes : List ℕ) {task : Task} (e : task ≡ taskOf bytes (b .today) numbers (b .count)) where
+  module _ (bytes : List ℕ) {task : Task} (told : Known bytes b past task) where
     known : (k : Task) → task ≡ k → Known bytes b past k
-    known k is = subst (Known bytes b past) (sym e ∙ is) (task-known bytes b (t .kept) numbers (t .own))
+    known k is = subst (Known bytes b past) is told
 
     pub by-refusal : {calendar : List ℕ} {answer : Answer} → task ≡ Refused answer
-        → Made calendar b bytes standing buffer (record { answer = answer; sent = standing; book = b; numbers = numbers; buffer = buffer })
+        → Made calendar b bytes standing buffer (record { answer = answer; sent = standing; book = b; buffer = buffer })
     by-refusal {calendar} {answer} is =
-        made-of _ (known (Refused answer) is .result calendar) refl refl (writes-none standing buffer) (t .own)
+        made-of _ (known (Refused answer) is .result calendar) refl refl (writes-none standing buffer)
 
     -- ---- a record on the file at a place
     module _ {at : ℕ} {r : Record} (is : task ≡ variant.OnFile at r) where
@@ -153,47 +139,44 @@ module _ {b : Book} {numbers : List ℕ} {standing : ℕ} {buffer : List ℕ} (t
               answer = p .answer;
               sent = p .sent;
               book = withTotals b (b .count) totals (set (b .files) at (p .file));
-              numbers = numbers;
               buffer = after;
             })
         by-file sum =
             made-of _ (stores .result) (gives .answer)
             (ap (λ (w : Waiting). withTotals b (b .count) w (set (b .files) at (p .file)))
             (stored-totals b well-kept at (found .held .within) (p .file) sum))
-            (gives .wrote) (t .own ∙ sym (stores .numbers))
+            (gives .wrote)
 
     -- ---- a mark of the next day
     pub by-marks : {calendar : List ℕ} {day : ℕ} → task ≡ NextDay day → {i sent : ℕ} {c : Book} {after : List ℕ}
         → Marking calendar day (dated day b) standing buffer i sent c after → b .count ≤ i
-        → Made calendar b bytes standing buffer (record { answer = Accepted; sent = sent; book = c; numbers = numbers; buffer = after })
+        → Made calendar b bytes standing buffer (record { answer = Accepted; sent = sent; book = c; buffer = after })
     by-marks {calendar} {day} is m end =
         made-of _ (known (NextDay day) is .result calendar) refl (mark-book m end) (mark-wrote m end)
-        (t .own ∙ sym (ap numbersOf (mark-book m end) ∙ mark-keeps-numbers calendar b day well-kept))
 
     -- ---- a create opens a place
     module _ {at : ℕ} {r : Record} (is : task ≡ Opens at r) where
       opens : KnownOpens bytes b at r
       opens = known (Opens at r) is
 
-      pub opening : (f : File) → Opening b at f b numbers f at
-      opening f = open-none b (well-kept .tidy) at f (opens .within) (opens .free) (t .own)
+      pub opening : (f : File) → Opening b at f b f at
+      opening f = open-none b (well-kept .tidy) at f (opens .within) (opens .free)
 
       -- a new file holds no order
-      pub by-opening : {calendar : List ℕ} {f : File} → f ≡ newFile r → {i : ℕ} {c : Book} {carry : File} {after : List ℕ}
-          → Opening b at f c after carry i → b .count < i
+      pub by-opening : {calendar : List ℕ} {f : File} → f ≡ newFile r → {i : ℕ} {c : Book} {carry : File}
+          → Opening b at f c carry i → b .count < i
           → Made calendar b bytes standing buffer
           (record {
             answer = Accepted;
             sent = standing;
             book = withPlaces c (b .count + 1) (c .files);
-            numbers = after;
             buffer = buffer;
           })
       by-opening {calendar} {f} new o end =
           made-of _ (opens .result calendar) refl
           (open-book o end (totals-put-in b (well-kept .tidy) at f (subst⁻¹ NoneWaits new refl))
           ∙ ap (λ (g : File). bookOf (b .today) (inserted at g (filesOf b))) new)
-          (writes-none standing buffer) (o .own)
+          (writes-none standing buffer)
 
     -- ---- a retire closes one
     module _ {at : ℕ} (is : task ≡ Closes at) where
@@ -206,8 +189,8 @@ module _ {b : Book} {numbers : List ℕ} {standing : ℕ} {buffer : List ℕ} (t
       pub closed-tidy : Tidy (getD (b .files) at past)
       closed-tidy = file-kept at (closes .within) .tidy
 
-      pub closing : Closing b at b numbers at
-      closing = close-none b (well-kept .tidy) at (closes .within) (t .own)
+      pub closing : Closing b at b at
+      closing = close-none b (well-kept .tidy) at (closes .within)
 
       -- what comes of it, by whether an order is open
       by-open : {one : Bool} → anyOf isOpen (held (getD (b .files) at past)) ≡ one → (calendar : List ℕ)
@@ -218,20 +201,19 @@ module _ {b : Book} {numbers : List ℕ} {standing : ℕ} {buffer : List ℕ} (t
 
       pub by-open-order : {calendar : List ℕ} → anyOf isOpen (held (getD (b .files) at past)) ≡ true
           → Made calendar b bytes standing buffer
-          (record { answer = OrderOpen; sent = standing; book = b; numbers = numbers; buffer = buffer })
-      by-open-order {calendar} e = made-of _ (by-open e calendar) refl refl (writes-none standing buffer) (t .own)
+          (record { answer = OrderOpen; sent = standing; book = b; buffer = buffer })
+      by-open-order {calendar} e = made-of _ (by-open e calendar) refl refl (writes-none standing buffer)
 
       pub by-closing : {calendar : List ℕ} → anyOf isOpen (held (getD (b .files) at past)) ≡ false
-          → {i : ℕ} {c : Book} {after : List ℕ} → Closing b at c after i → b .count - 1 ≤ i → {none : File} → none ≡ blankFile
+          → {i : ℕ} {c : Book} → Closing b at c i → b .count - 1 ≤ i → {none : File} → none ≡ blankFile
           → Made calendar b bytes standing buffer
           (record {
             answer = Accepted;
             sent = standing;
             book = withPlaces c (b .count - 1) (set (c .files) (b .count - 1) none);
-            numbers = set after (b .count - 1) 0;
             buffer = buffer;
           })
       by-closing {calendar} e o end blank =
           made-of _ (by-open e calendar) refl
           (close-book o end blank (totals-taken-out b (well-kept .tidy) at (closes .within) e))
-          (writes-none standing buffer) (close-own o end blank)
+          (writes-none standing buffer)

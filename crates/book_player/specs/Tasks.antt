@@ -1,10 +1,11 @@
--- What is to be done with a record, by its bytes, T and the premise numbers of a book's places, and what is known then.
+-- What is to be done with a record, by what it says, T, and where its premise stands among a book's files or would stand; and what is
+-- known then.
 use Prim.Native.Nat.{ℕ, _+_, _≤_, _<_}
 use mathlib.Core.Path.{_≡_}
 use mathlib.Core.List.{List, []}
 use mathlib.Core.Bool.{cond}
 use lib.Dec.{eqb}
-use lib.ListN.{take, getD}
+use lib.ListN.{getD}
 use Rattle.lists.specs.Search.{anyOf}
 use Rattle.lists.specs.Shift.{inserted, removed}
 use Rattle.records.specs.declared.Record.{Record}
@@ -23,43 +24,39 @@ use Rattle.book.specs.Book.{mostFiles, filesOf, bookOf}
 use Rattle.book.specs.Calls.{Result, refusal, markedBook}
 use Rattle.book.specs.CallsInRow.{called}
 use Rattle.book.specs.Laws.{OnHeld}
-use Rattle.book_files.specs.declared.premise_numbers.Place.{Place}
-use Rattle.book_files.specs.declared.premise_numbers.Place.the-variants.{Held, Free}
-use Rattle.book_files.specs.Numbers.{placeOfPremise}
 use Rattle.book_player.specs.declared.dispatch.Task.{Task}
 use Rattle.book_player.specs.declared.dispatch.Task.the-variants.{Refused, Opens, Closes, OnFile, NextDay}
 
 -- ---- what is to be done
--- a create: rows 5 and 6
-abbrev pub onNew : Record → ℕ → Place → Task
-onNew r count (Held at) = Refused PremiseHeld
-onNew r count (Free at) = cond (eqb count mostFiles) (Refused BookFull) (Opens at r)
+-- the premise that a record names; 0, which is no premise's number, where it names none
+abbrev pub premiseIn : Reading → ℕ
+premiseIn Malformed = 0
+premiseIn (Says r) = r .premise
+
+-- a create: rows 5 and 6; the premise is held exactly if the number at its place is its own
+abbrev pub onNew : Record → ℕ → ℕ → ℕ → Task
+onNew r count at there =
+    cond (eqb there (r .premise)) (Refused PremiseHeld) (cond (eqb count mostFiles) (Refused BookFull) (Opens at r))
 
 -- a record that needs a premise: row 4; a retire takes the file out of the book, any other leaves it there
-abbrev pub onHeld : Record → Place → Task
-onHeld r (Held at) = cond (is kindRetire r) (Closes at) (OnFile at r)
-onHeld r (Free at) = Refused NoSuchPremise
+abbrev pub onHeld : Record → ℕ → ℕ → Task
+onHeld r at there = cond (eqb there (r .premise)) (cond (is kindRetire r) (Closes at) (OnFile at r)) (Refused NoSuchPremise)
 
 -- a day mark: row 15
 abbrev pub onMark : ℕ → ℕ → Task
 onMark today day = cond (eqb day (today + 1)) (NextDay day) (Refused NotNextDay)
 
 -- by the kind
-abbrev pub taskFor : ℕ → List ℕ → ℕ → Record → Task
-taskFor today numbers count r =
-    cond (is kindCreate r) (onNew r count (placeOfPremise (r .premise) numbers))
-    (cond (needsPremise r) (onHeld r (placeOfPremise (r .premise) numbers)) (onMark today (r .day)))
+abbrev pub taskFor : ℕ → ℕ → ℕ → ℕ → Record → Task
+taskFor today count at there r =
+    cond (is kindCreate r) (onNew r count at there) (cond (needsPremise r) (onHeld r at there) (onMark today (r .day)))
 
 -- row 3
-abbrev pub taskIn : ℕ → List ℕ → ℕ → Reading → Task
-taskIn today numbers count Malformed = Refused MalformedRecord
-taskIn today numbers count (Says r) = taskFor today numbers count r
+abbrev pub taskOf : ℕ → ℕ → ℕ → ℕ → Reading → Task
+taskOf today count at there Malformed = Refused MalformedRecord
+taskOf today count at there (Says r) = taskFor today count at there r
 
--- the bytes of a record, T, and the first `count` of some premise numbers
-unfoldable pub taskOf : List ℕ → ℕ → List ℕ → ℕ → Task
-taskOf bytes today premises count = taskIn today (take count premises) count (reading bytes)
-
--- ---- what is known then of a record on a book, by the premise numbers of its places
+-- ---- what is known then of a record on a book
 -- a create: a new file stands at the place
 abbrev pub opening : Book → ℕ → Record → Result
 opening b at r = record { answer = Accepted; notices = []; book = bookOf (b .today) (inserted at (newFile r) (filesOf b)) }

@@ -1,12 +1,9 @@
-// What is to be done with a record, by its bytes, T and the premise numbers of the book's places: rows 3 to 6 and 15, and which files it
-// touches. The book itself is not handed over for it.
+// What is to be done with a record, by what it says, T, and where its premise stands among the files or would stand: rows 3 to 6 and 15,
+// and which files it touches. The book itself is not handed over for it.
 ghost use mathlib.Core.Path.{_≡_};
 ghost use Prim.Native.Nat.{_≤_};
-ghost use lib.ListN.{length, take};
 ghost use Rattle.days.specs.Days.{lastDay};
-ghost use Rattle.book_files.specs.Numbers.{placeOfPremise};
-ghost use Rattle.book_player.specs.Tasks.{onNew, onHeld, onMark, taskOf};
-use book_files::Place;
+ghost use Rattle.book_player.specs.Tasks.{premiseIn, onNew, onHeld, onMark, taskOf};
 use premise::Answer;
 use records::Reading;
 use records::Record;
@@ -26,38 +23,40 @@ pub enum Task {
     NextDay(u16),
 }
 
-// A create: rows 5 and 6.
-fn on_new(r: Record, premises: &[u64], count: usize) -> Task
-    requires { ⌜ count ≤ length (now premises) ⌝ }
-    ensures { λ t. ⌜ t ≡ onNew r count (placeOfPremise (r .premise) (take count (now (premises .entry)))) ⌝ }
+// The premise that a record names; 0, which is no premise's number, where it names none.
+pub fn premise_in(reading: Reading) -> u64
+    ensures { λ p. ⌜ p ≡ premiseIn reading ⌝ }
 {
-    let place = book_files::place_of(premises, count, r.premise);
-    match place {
-        Place::Held(at) => Task::Refused(Answer::PremiseHeld),
-        Place::Free(at) => {
-            if count == book::MOST_FILES {
-                return Task::Refused(Answer::BookFull);
-            }
-            Task::Opens(at, r)
-        }
+    match reading {
+        Reading::Malformed => 0,
+        Reading::Says(r) => r.premise,
     }
 }
 
-// A record that needs a premise: row 4.
-fn on_held(r: Record, premises: &[u64], count: usize) -> Task
-    requires { ⌜ count ≤ length (now premises) ⌝ }
-    ensures { λ t. ⌜ t ≡ onHeld r (placeOfPremise (r .premise) (take count (now (premises .entry)))) ⌝ }
+// A create: rows 5 and 6.
+fn on_new(r: Record, count: usize, at: usize, there: u64) -> Task
+    ensures { λ t. ⌜ t ≡ onNew r count at there ⌝ }
 {
-    let place = book_files::place_of(premises, count, r.premise);
-    match place {
-        Place::Free(at) => Task::Refused(Answer::NoSuchPremise),
-        Place::Held(at) => {
-            if r.kind == record_kind::RETIRE {
-                return Task::Closes(at);
-            }
-            Task::OnFile(at, r)
-        }
+    if there == r.premise {
+        return Task::Refused(Answer::PremiseHeld);
     }
+    if count == book::MOST_FILES {
+        return Task::Refused(Answer::BookFull);
+    }
+    Task::Opens(at, r)
+}
+
+// A record that needs a premise: row 4.
+fn on_held(r: Record, at: usize, there: u64) -> Task
+    ensures { λ t. ⌜ t ≡ onHeld r at there ⌝ }
+{
+    if there != r.premise {
+        return Task::Refused(Answer::NoSuchPremise);
+    }
+    if r.kind == record_kind::RETIRE {
+        return Task::Closes(at);
+    }
+    Task::OnFile(at, r)
 }
 
 // A day mark: row 15.
@@ -71,20 +70,20 @@ fn on_mark(day: u16, today: u16) -> Task
     Task::Refused(Answer::NotNextDay)
 }
 
-// What is to be done with a record, by its bytes, T and the premise numbers of the places that hold a file.
-pub fn task_of(bytes: &[u8], today: u16, premises: &[u64], count: usize) -> Task
-    requires { ⌜ (today ≤ lastDay) × (count ≤ length (now premises)) ⌝ }
-    ensures { λ t. ⌜ t ≡ taskOf (now (bytes .entry)) today (now (premises .entry)) count ⌝ }
+// What is to be done with a record. Its premise stands at the place or would stand there, and is held exactly if the number there is its
+// own.
+pub fn task_of(reading: Reading, today: u16, count: usize, at: usize, there: u64) -> Task
+    requires { ⌜ today ≤ lastDay ⌝ }
+    ensures { λ t. ⌜ t ≡ taskOf today count at there reading ⌝ }
 {
-    let reading = record_bytes::read_record(bytes);
     match reading {
         Reading::Malformed => Task::Refused(Answer::MalformedRecord),
         Reading::Says(r) => {
             let kind = r.kind;
             match kind {
-                record_kind::CREATE => on_new(r, premises, count),
+                record_kind::CREATE => on_new(r, count, at, there),
                 record_kind::RETIRE..=record_kind::REPLY
-                | record_kind::DATE_CHANGE..=record_kind::AGREEMENT => on_held(r, premises, count),
+                | record_kind::DATE_CHANGE..=record_kind::AGREEMENT => on_held(r, at, there),
                 _ => on_mark(r.day, today),
             }
         }

@@ -22,7 +22,7 @@ pub fn record_end(from: usize, length: usize) -> usize
 }
 
 // Plays the records of a stretch of tape, one call each: as many as there are answers to note, and as long as any record's notices surely
-// find room. A refusal leaves the book; a record on a premise that is held stores one file, a mark the files that it changes, and the
+// find room. A premise is looked for in the book itself. A refusal leaves the book; a record on a premise that is held stores one file, a mark the files that it changes, and the
 // totals of waiting orders move with each of these and for no other; only a create and a retire, which are rare, move files. They move no
 // total: a new file holds no order, and one that is taken out has none open. (In this function: a call would hand the book over.)
 pub fn play(
@@ -40,7 +40,6 @@ pub fn play(
         (now (counts .entry)) (now (counts .exit)) (now (notices .entry)) (now (notices .exit)) ⌝ }
 {
     let mut c = b;
-    let mut numbers = book_files::premises(c);
     let mut played: usize = 0;
     let mut sent: usize = 0;
     let mut from: usize = 0;
@@ -54,9 +53,21 @@ pub fn play(
         }
         let to = record_end(from, tape.len());
         let bytes = &tape[from..to];
+        let reading = record_bytes::read_record(bytes);
+        let wanted = crate::dispatch::premise_in(reading);
         let count = c.count;
         let standing = sent;
-        let task = crate::dispatch::task_of(bytes, c.today, &numbers, count);
+        // where the premise stands or would stand, and the number that was read last
+        let mut at: usize = 0;
+        let mut there: u64 = 0;
+        while at < count {
+            there = c.files[at].premise;
+            if wanted <= there {
+                break;
+            }
+            at += 1;
+        }
+        let task = crate::dispatch::task_of(reading, c.today, count, at, there);
         last = Answer::Accepted;
         match task {
             Task::Refused(row) => {
@@ -98,7 +109,6 @@ pub fn play(
                 while place <= count {
                     let g = c.files[place];
                     c.files[place] = carry;
-                    numbers[place] = carry.premise;
                     carry = g;
                     place += 1;
                 }
@@ -114,12 +124,10 @@ pub fn play(
                     while freed < left {
                         let g = c.files[freed + 1];
                         c.files[freed] = g;
-                        numbers[freed] = g.premise;
                         freed += 1;
                     }
                     let none = premise_file::blank_file();
                     c.files[left] = none;
-                    numbers[left] = 0;
                     c.count = left;
                 }
             }

@@ -2,39 +2,43 @@
 use Prim.Native.Nat.{ℕ, _+_, _≤_, _<_}
 use mathlib.Core.Path.{_≡_, ap, ap₂, _∙_}
 use mathlib.Core.Logic.{_⊎_, inl, inr, ⊎-elim}
-use mathlib.Core.List.{List}
 use mathlib.Core.Bool.{Bool, true, false, _||_, or-true}
 use native.Mathlib.Omega.{arith}
 use borrow.Author.Tests.{eq-eqb, ne-eqb, eqb-true, eqb-false}
 use Rattle.lists.proofs.TestLaws.{by-test}
 use Rattle.records.specs.declared.Record.{Record}
 use Rattle.records.specs.Records.{kindCreate, kindRetire, kindReply, kindDateChange, kindAgreement}
-use Rattle.premise.specs.declared.Answer.the-variants.{BookFull, NotNextDay}
+use Rattle.premise.specs.declared.Answer.the-variants.{NoSuchPremise, PremiseHeld, BookFull, NotNextDay}
 use Rattle.premise.specs.Steps.{is}
 use Rattle.premise.specs.Refusals.{needsPremise}
 use Rattle.premise.proofs.KindsOf.{fromOrChange, among, not-among, needs-no-create}
 use Rattle.book.specs.Book.{mostFiles}
-use Rattle.book_files.specs.declared.premise_numbers.Place.{Place}
-use Rattle.book_files.specs.declared.premise_numbers.Place.the-variants.{Held, Free}
-use Rattle.book_files.specs.Numbers.{placeOfPremise}
 use Rattle.book_player.specs.declared.dispatch.Task.the-variants.{Refused, Opens, Closes, OnFile, NextDay}
 use Rattle.book_player.specs.Tasks.{onNew, onHeld, onMark, taskFor}
 
--- ---- a create of a premise that is not held
-module _ (r : Record) (count at : ℕ) {p : Place} (e : p ≡ Free at) where
-  pub new-full : count ≡ mostFiles → onNew r count p ≡ Refused BookFull
-  new-full h = rw (e, eq-eqb count mostFiles h)
+-- ---- a create
+module _ (r : Record) (count at there : ℕ) where
+  pub new-held : there ≡ r .premise → onNew r count at there ≡ Refused PremiseHeld
+  new-held h = rw (eq-eqb there (r .premise) h)
 
-  pub new-opens : (count ≡ mostFiles → ⊥) → onNew r count p ≡ Opens at r
-  new-opens h = rw (e, ne-eqb count mostFiles h)
+  module _ (other : there ≡ r .premise → ⊥) where
+    pub new-full : count ≡ mostFiles → onNew r count at there ≡ Refused BookFull
+    new-full h = rw (ne-eqb there (r .premise) other, eq-eqb count mostFiles h)
 
--- ---- a record on a premise that is held
-module _ (r : Record) (at : ℕ) {p : Place} (e : p ≡ Held at) where
-  pub held-closes : r .kind ≡ kindRetire → onHeld r p ≡ Closes at
-  held-closes h = rw (e, eq-eqb (r .kind) kindRetire h)
+    pub new-opens : (count ≡ mostFiles → ⊥) → onNew r count at there ≡ Opens at r
+    new-opens h = rw (ne-eqb there (r .premise) other, ne-eqb count mostFiles h)
 
-  pub held-stays : (r .kind ≡ kindRetire → ⊥) → onHeld r p ≡ OnFile at r
-  held-stays h = rw (e, ne-eqb (r .kind) kindRetire h)
+-- ---- a record that needs a premise
+module _ (r : Record) (at there : ℕ) where
+  pub held-nowhere : (there ≡ r .premise → ⊥) → onHeld r at there ≡ Refused NoSuchPremise
+  held-nowhere h = rw (ne-eqb there (r .premise) h)
+
+  module _ (own : there ≡ r .premise) where
+    pub held-closes : r .kind ≡ kindRetire → onHeld r at there ≡ Closes at
+    held-closes h = rw (eq-eqb there (r .premise) own, eq-eqb (r .kind) kindRetire h)
+
+    pub held-stays : (r .kind ≡ kindRetire → ⊥) → onHeld r at there ≡ OnFile at r
+    held-stays h = rw (eq-eqb there (r .premise) own, ne-eqb (r .kind) kindRetire h)
 
 -- ---- a day mark
 module _ (today day : ℕ) where
@@ -76,12 +80,12 @@ module _ (r : Record) where
       (λ high. needs-neither (inr (omega (arith, high))) (λ q. omega (arith, high, q)) (λ q. omega (arith, high, q))) rest) out
 
 -- ---- by the kind
-module _ (today : ℕ) (numbers : List ℕ) (count : ℕ) (r : Record) where
-  pub kind-new : r .kind ≡ kindCreate → taskFor today numbers count r ≡ onNew r count (placeOfPremise (r .premise) numbers)
+module _ (today count at there : ℕ) (r : Record) where
+  pub kind-new : r .kind ≡ kindCreate → taskFor today count at there r ≡ onNew r count at there
   kind-new h = rw (eq-eqb (r .kind) kindCreate h)
 
-  pub kind-held : needsPremise r ≡ true → taskFor today numbers count r ≡ onHeld r (placeOfPremise (r .premise) numbers)
+  pub kind-held : needsPremise r ≡ true → taskFor today count at there r ≡ onHeld r at there
   kind-held needs = rw (needs-no-create r needs, needs)
 
-  pub kind-mark : (r .kind ≡ kindCreate → ⊥) → needsPremise r ≡ false → taskFor today numbers count r ≡ onMark today (r .day)
+  pub kind-mark : (r .kind ≡ kindCreate → ⊥) → needsPremise r ≡ false → taskFor today count at there r ≡ onMark today (r .day)
   kind-mark create none = rw (ne-eqb (r .kind) kindCreate create, none)

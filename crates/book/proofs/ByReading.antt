@@ -1,15 +1,13 @@
 -- A call by what its record says, without a look into the files: malformed bytes, a record of a premise that is not held, a day mark.
 -- Assumes nothing.
-use Prim.Native.Nat.{ℕ, _-_}
-use mathlib.Core.Path.{_≡_, refl, sym, ap, _∙_}
-use mathlib.Core.List.{List, [], _∷_, _++_, map, map-append}
+use mathlib.Core.Path.{_≡_, refl, ap, _∙_}
+use mathlib.Core.List.{List, _∷_, _++_}
 use mathlib.Core.Option.{Option, none}
 use mathlib.Core.Bool.{Bool, false, cond, not, _&&_}
 use native.Mathlib.Omega.{arith}
 use lib.Dec.{eqb}
-use lib.ListN.{length, replicate, length-map}
+use lib.ListN.{length}
 use borrow.Author.Tests.{eqb-true, ne-eqb}
-use Rattle.lists.specs.Search.{Each}
 use Rattle.records.specs.declared.Reading.{Reading}
 use Rattle.records.specs.declared.Reading.the-variants.{Says}
 use Rattle.records.specs.Layout.{wide}
@@ -17,19 +15,15 @@ use Rattle.records.specs.Records.{reading, kindCreate, kindDayMark}
 use Rattle.premise.specs.declared.File.{File}
 use Rattle.premise.specs.declared.Answer.{Answer}
 use Rattle.premise.specs.declared.Answer.the-variants.{NoSuchPremise, BookFull}
-use Rattle.premise.specs.Orders.{blankFile}
-use Rattle.premise.specs.WellKept.{FileKept}
 use Rattle.premise.specs.Steps.{is}
 use Rattle.premise.specs.Refusals.{Row, row, firstRow, isHeld, premiseRows, fileRows}
-use Rattle.premise.specs.OnePremise.{marked}
 use Rattle.premise.proofs.Table.{needs-file}
-use Rattle.book.specs.Book.{mostFiles, filesOf, bookOf, fileFor}
-use Rattle.book.specs.Calls.{recordRows, markedFiles, meetsRow6, onDayMark, asOne, callBy}
-use Rattle.book.specs.Laws.{numbersOf, CallMalformed, CallNotHeld, CallOnMark, MarkKeepsNumbers}
+use Rattle.book.specs.Book.{mostFiles, filesOf, fileFor}
+use Rattle.book.specs.Calls.{recordRows, meetsRow6, onDayMark, asOne, callBy}
+use Rattle.book.specs.Laws.{CallMalformed, CallNotHeld, CallOnMark}
 use Rattle.book.proofs.Kept.{book-kept-means}
 use Rattle.book.proofs.Rows.{refusing, record-decides}
 use Rattle.book.proofs.RowsInOrder.{malformed-by}
-use Rattle.book.proofs.Marks.{marked-one}
 use Rattle.book.proofs.Acts.{decided, refuses, acted, call-acts}
 
 pub call-malformed : CallMalformed
@@ -54,25 +48,3 @@ call-on-mark calendar b bytes lent r well room e mark =
     ap (λ (a : Bool). a && not (isHeld (fileFor (r .premise) (filesOf b))) && eqb (length (filesOf b)) mostFiles) other in
     call-acts calendar b bytes lent (book-kept-means b .0 well) room (ap (meetsRow6 b) e ∙ not-new) ∙ ap (acted calendar b) e
     ∙ ap (λ (a : Bool). cond a (onDayMark calendar b r) (asOne calendar b r)) mark
-
-abbrev numberOf : File → ℕ
-numberOf f = f .premise
-
-marked-as-before : (calendar : List ℕ) (day : ℕ) (fs : List File) → Each FileKept fs
-    → map numberOf (markedFiles calendar day fs) ≡ map numberOf fs
-marked-as-before calendar day [] u = refl
-marked-as-before calendar day (f ∷ fs) u = λ i. marked-one calendar day f (u .0) .number i ∷ marked-as-before calendar day fs (u .1) i
-
--- the numbers of a book by its files
-numbers-by : (today : ℕ) (fs : List File)
-    → numbersOf (bookOf today fs) ≡ map numberOf fs ++ map numberOf (replicate (mostFiles - length fs) blankFile)
-unfolding bookOf
-numbers-by today fs = map-append numberOf fs (replicate (mostFiles - length fs) blankFile)
-
-pub mark-keeps-numbers : MarkKeepsNumbers
-mark-keeps-numbers calendar b day k =
-    let fs : List File = filesOf b in
-    let many = length-map fs (λ (f : File). marked calendar day f .file) in
-    numbers-by day (markedFiles calendar day fs)
-    ∙ (λ i. marked-as-before calendar day fs (k .files) i ++ map numberOf (replicate (mostFiles - many i) blankFile))
-    ∙ sym (ap numbersOf (k .tidy .whole) ∙ numbers-by (b .today) fs)

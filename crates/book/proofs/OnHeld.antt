@@ -7,7 +7,7 @@ use mathlib.Core.Option.{Option, some}
 use mathlib.Core.Bool.{Bool, false, cond}
 use native.Mathlib.Omega.{arith}
 use lib.ListN.{length, getD}
-use lib.Seq.{getD-take, map-set-same}
+use lib.Seq.{getD-take}
 use Rattle.records.specs.declared.Record.{Record}
 use Rattle.records.specs.declared.Reading.the-variants.{Says}
 use Rattle.records.specs.Records.{reading, kindDayMark}
@@ -19,7 +19,7 @@ use Rattle.premise_laws.specs.Laws.{Held, KeptFor}
 use Rattle.book.specs.declared.Book.{Book}
 use Rattle.book.specs.Book.{filesOf, bookOf, bookKept, fileFor, putIn, withFile}
 use Rattle.book.specs.Calls.{noticeBytes, premiseState, Result, call, meetsRow6, onDayMark, asOne, inBook}
-use Rattle.book.specs.Laws.{BookKept, OnHeld, withFileAt, numbersOf, CallOnHeld}
+use Rattle.book.specs.Laws.{BookKept, OnHeld, withFileAt, CallOnHeld}
 use Rattle.book.proofs.Files.{Rising, rises-rising}
 use Rattle.book.proofs.FilesPut.{found-at, put-at}
 use Rattle.book.proofs.Kept.{count-is, stored, book-kept-means}
@@ -77,9 +77,6 @@ module _ (calendar : List ℕ) (b : Book) (bytes lent : List ℕ) (r : Record) (
       ∙ ap {B = Result} (λ (c : Book). record { answer = ruled .answer; notices = ruled .notices; book = c })
       (ap (λ (x : Option File). bookOf (b .today) (withFile (r .premise) x (filesOf b))) left ∙ put-there)
 
-  numbers : numbersOf (withFileAt b at g) ≡ numbersOf b
-  numbers = map-set-same (λ (f : File). f .premise) (b .files) at g past (kept-file .number ∙ sym (h .own))
-
 pub call-on-held : CallOnHeld
 call-on-held calendar b bytes lent r at past g well room e h left =
     let k = book-kept-means b .0 well in
@@ -88,5 +85,4 @@ call-on-held calendar b bytes lent r at past g well room e h left =
       result = same;
       file = kept-file calendar b bytes lent r at past g k room e h left;
       book = sym (ap (λ (x : Result). bookKept (x .book)) same) ∙ call-keeps calendar b bytes lent well;
-      numbers = numbers calendar b bytes lent r at past g k room e h left;
     }

@@ -2,7 +2,7 @@
 use Prim.Native.Nat.{ℕ, _+_, _*_, _≤_, _<_}
 use mathlib.Core.Path.{_≡_}
 use mathlib.Core.Logic.{_↔_, _⊎_}
-use mathlib.Core.List.{List, [], _∷_, _++_, map}
+use mathlib.Core.List.{List, [], _∷_, _++_}
 use mathlib.Core.Option.{none, some}
 use mathlib.Core.Bool.{true, false}
 use lib.Dec.{ltb}
@@ -28,7 +28,7 @@ use Rattle.premise_laws.specs.Retailers.{RetailersUpTo}
 use Rattle.book.specs.declared.Book.{Book}
 use Rattle.book.specs.Totals.{ordersWith, ordersIn, waitingIn}
 use Rattle.book.specs.Book.{mostFiles, filesOf, bookOf, freshBook, risesFrom, bookKeptBy, bookKept, fileFor}
-use Rattle.book.specs.Calls.{noticeBytes, callRows, meetsRow6, markedFiles, markedNotices, premiseState, Result, onPremise, refusal}
+use Rattle.book.specs.Calls.{noticeBytes, callRows, meetsRow6, markedNotices, premiseState, Result, onPremise, refusal}
 use Rattle.book.specs.Calls.{callBy, call, onDayMark}
 
 -- ---- well kept
@@ -165,16 +165,11 @@ abbrev pub withFileAt : Book → ℕ → File → Book
 withFileAt b at g =
     record { today = b .today; count = b .count; waiting = waitingIn (set (filesOf b) at g); files = set (b .files) at g }
 
--- the premise numbers of all its places, 0 where a place is unused
-abbrev pub numbersOf : Book → List ℕ
-numbersOf b = map (λ (f : File). f .premise) (b .files)
-
 -- what a call comes to that leaves the file g: the one-premise rules' step on the file at the place, with g stored there
 pub record StoresFile (calendar : List ℕ) (b : Book) (bytes lent : List ℕ) (r : Record) (at : ℕ) (given : Given) (g : File) : Type 0 where
   pub result : call calendar b bytes lent ≡ record { answer = given .answer; notices = given .notices; book = withFileAt b at g }
   pub file : KeptFor (r .premise) g
   pub book : bookKept (withFileAt b at g) ≡ true
-  pub numbers : numbersOf (withFileAt b at g) ≡ numbersOf b
 
 abbrev pub CallOnHeld : Type 0
 CallOnHeld =
@@ -210,12 +205,6 @@ CallOnMark =
     (calendar : List ℕ) (b : Book) (bytes lent : List ℕ) (r : Record)
     → bookKept b ≡ true → noticeBytes ≤ length lent → reading bytes ≡ Says r → is kindDayMark r ≡ true
     → call calendar b bytes lent ≡ onDayMark calendar b r
-
--- a day mark leaves every premise in its place
-abbrev pub MarkKeepsNumbers : Type 0
-MarkKeepsNumbers =
-    (calendar : List ℕ) (b : Book) (day : ℕ) → BookKept b
-    → numbersOf (bookOf day (markedFiles calendar day (filesOf b))) ≡ numbersOf b
 
 -- a mark on files put together tells of the first and then of the others: its notices stand in the files' order
 abbrev pub MarkTellsInOrder : Type 0

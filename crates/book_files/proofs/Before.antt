@@ -31,9 +31,12 @@ before-within premise (f ∷ fs) = go (ltb (f .premise) premise) (before-within 
     go false h = omega arith
 
 -- ---- at the place
--- whether the file at the place is the premise's
+-- the file at the place is the premise's; another file stands there, or none
 abbrev pub Here : File → ℕ → List File → Type 0
 Here d premise fs = (before premise fs < length fs) × (getD fs (before premise fs) d .premise ≡ premise)
+
+abbrev pub Elsewhere : File → ℕ → List File → Type 0
+Elsewhere d premise fs = before premise fs < length fs → getD fs (before premise fs) d .premise ≡ premise → ⊥
 
 module _ (d : File) (premise : ℕ) where
   -- the first file stands before, so the place is one further on
@@ -43,15 +46,12 @@ module _ (d : File) (premise : ℕ) where
   pub front : (f : File) (fs : List File) → premise ≤ f .premise → before premise (f ∷ fs) ≡ 0
   front f fs h = before-here premise {f = f} {left = f ∷ fs} {rest = fs} refl h
 
-  -- another file stands there, or none
-  pub file-elsewhere : (n : ℕ) (fs : List File) → Rising n fs
-      → (before premise fs < length fs → getD fs (before premise fs) d .premise ≡ premise → ⊥) → fileFor premise fs ≡ none
+  pub file-elsewhere : (n : ℕ) (fs : List File) → Rising n fs → Elsewhere d premise fs → fileFor premise fs ≡ none
   unfolding fileFor
   file-elsewhere n [] r e = refl
   file-elsewhere n (f ∷ fs) r e = go (ltb (f .premise) premise) refl (file-elsewhere (f .premise) fs (r .1))
     where
-      go : (a : Bool) → ltb (f .premise) premise ≡ a
-          → ((before premise fs < length fs → getD fs (before premise fs) d .premise ≡ premise → ⊥) → fileFor premise fs ≡ none)
+      go : (a : Bool) → ltb (f .premise) premise ≡ a → (Elsewhere d premise fs → fileFor premise fs ≡ none)
           → fileFor premise (f ∷ fs) ≡ none
       go true t ih =
           let p = further f fs (ltb-true (f .premise) premise t) in

@@ -1,9 +1,9 @@
 -- The search for a premise among the files of a tidy book: a turn, and what is known where it ends. Assumes nothing.
 use Prim.Native.Nat.{ℕ, _+_, _≤_, _<_}
-use mathlib.Core.Path.{_≡_, refl, sym, ap, _∙_}
-use mathlib.Core.List.{[], _∷_}
+use mathlib.Core.Path.{_≡_, sym, ap, _∙_}
+use mathlib.Core.List.{_∷_}
 use native.Mathlib.Omega.{arith}
-use lib.ListN.{length, drop, getD}
+use lib.ListN.{drop, getD}
 use Rattle.lists.proofs.Find.{drop-part, part-none}
 use Rattle.premise.specs.declared.File.{File}
 use Rattle.book.specs.declared.Book.{Book}
@@ -11,8 +11,7 @@ use Rattle.book.specs.Book.{filesOf}
 use Rattle.book.specs.Laws.{TidyBook}
 use Rattle.book.proofs.Kept.{count-is}
 use Rattle.book_files.specs.Places.{before}
-use Rattle.book_files.proofs.Before.{Here, before-here, before-next}
-use Rattle.book_files.proofs.Places.{Elsewhere}
+use Rattle.book_files.proofs.Before.{Here, Elsewhere, before-here, before-next}
 use Rattle.book_files.proofs.Tidy.{past, at-file, length-files}
 
 -- The files before the place reached stand before the premise's, so that the number read last is not its own. (0 is no premise's.)
@@ -25,7 +24,7 @@ pub record Seeking (premise : ℕ) (b : Book) (at there : ℕ) : Type 0 where
 pub record Sought (premise : ℕ) (b : Book) (at there : ℕ) : Type 0 where
   pub place : at ≡ before premise (filesOf b)
   pub held : 0 < premise → there ≡ premise → Here past premise (filesOf b)
-  pub free : (there ≡ premise → ⊥) → Elsewhere premise (filesOf b)
+  pub free : (there ≡ premise → ⊥) → Elsewhere past premise (filesOf b)
 
 pub seek-none : (premise : ℕ) (b : Book) → Seeking premise b 0 0
 seek-none premise b = record { within = omega arith; passed = omega arith; below = λ h. h }

@@ -40,8 +40,7 @@ use Rattle.book.proofs.ByReading.{call-malformed, call-not-held, call-on-mark}
 use Rattle.book.proofs.ByPremise.{call-full, call-one, call-one-refused}
 use Rattle.book.proofs.CallsInRow.{called-room}
 use Rattle.book_files.specs.Places.{before}
-use Rattle.book_files.proofs.Before.{Here, before-within, file-elsewhere}
-use Rattle.book_files.proofs.Places.{Elsewhere}
+use Rattle.book_files.proofs.Before.{Here, Elsewhere, before-within, file-elsewhere}
 use Rattle.book_files.proofs.PutIn.{put-elsewhere}
 use Rattle.book_files.proofs.TakenOut.{taken-here}
 use Rattle.book_files.proofs.Tidy.{past}
@@ -138,7 +137,7 @@ module _ (bytes : List ℕ) (b : Book) (well : bookKept b ≡ true) where
           }
 
     -- ---- a premise that is not held
-    module _ (at : ℕ) (place : at ≡ before (r .premise) (filesOf b)) (out : Elsewhere (r .premise) (filesOf b)) where
+    module _ (at : ℕ) (place : at ≡ before (r .premise) (filesOf b)) (out : Elsewhere past (r .premise) (filesOf b)) where
       absent : fileFor (r .premise) (filesOf b) ≡ none
       absent = file-elsewhere past (r .premise) 0 (filesOf b) rising out
 
@@ -180,7 +179,7 @@ module _ (bytes : List ℕ) (b : Book) (well : bookKept b ≡ true) where
       here : is kindDayMark r ≡ false → eqb there (r .premise) ≡ true → Here past (r .premise) (filesOf b)
       here other own = found-there .held (has-premise r (says bytes r e .formed) other) (eqb-true there (r .premise) own)
 
-      out : eqb there (r .premise) ≡ false → Elsewhere (r .premise) (filesOf b)
+      out : eqb there (r .premise) ≡ false → Elsewhere past (r .premise) (filesOf b)
       out other = found-there .free (eqb-false there (r .premise) other)
 
       of-new : is kindCreate r ≡ true → Known bytes b past (onNew r (b .count) at there)

@@ -6,14 +6,13 @@ use mathlib.Core.Bool.{Bool, true, false, _&&_}
 use native.Mathlib.Nat.{le-refl}
 use native.Mathlib.Numerals.{add-one}
 use native.Mathlib.Omega.{arith}
-use lib.ListN.{length, take, getD, set, length-append, length-take, length-drop, length-map}
+use lib.ListN.{length, take, getD, set, length-append, length-take, length-drop, length-map, List·getD-map}
 use lib.Seq.{take-all}
 use Rattle.lists.specs.Search.{allOf}
 use Rattle.lists.proofs.Over.{over, over-start, over-end, over-at, over-set}
 use Rattle.lists.proofs.Find.{drop-none}
 use Rattle.book.specs.declared.Book.{Book}
 use Rattle.book.specs.Book.{bookKept}
-use Rattle.book_files.proofs.Numbers.{map-at}
 use Rattle.sheet_rules.specs.declared.BlockRow.{BlockRow}
 use Rattle.sheet_rules.specs.declared.Tally.{Tally}
 use Rattle.sheet_rules.specs.declared.SheetAnswer.{SheetAnswer}
@@ -81,8 +80,8 @@ module _ (b : Book) (rows : List BlockRow) (i : ℕ) (h : i < length rows) where
   counted-next : set (filledTo b i rows) i (counted b (getD rows i past)) ≡ filledTo b (suc i) rows
   unfolding filledTo
   counted-next =
-      ap (set (over i (map (counted b) rows) rows) i) (sym (map-at (counted b) past past rows i h))
-      ∙ over-set past (map (counted b) rows) rows i h (rw (length-map rows (counted b)) h)
+      ap (set (over i (map (counted b) rows) rows) i) (sym (List·getD-map (counted b) rows i past))
+      ∙ over-set (counted b past) (map (counted b) rows) rows i h (rw (length-map rows (counted b)) h)
       ∙ ap (λ (n : ℕ). over n (map (counted b) rows) rows) (add-one i)
 
   pub filled-next : (t : Tally) → t ≡ tallyOf b (getD (filledTo b i rows) i past .first) (getD (filledTo b i rows) i past .last)

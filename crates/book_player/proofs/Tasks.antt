@@ -175,29 +175,29 @@ module _ (bytes : List ℕ) (b : Book) (well : bookKept b ≡ true) where
             }
 
     -- ---- by what is found: the premise is held exactly if the number at its place is its own
-    module _ {at there : ℕ} (found-there : Sought (r .premise) b at there) where
+    module _ {at there : ℕ} (sought : Sought (r .premise) b at there) where
       here : is kindDayMark r ≡ false → eqb there (r .premise) ≡ true → Here past (r .premise) (filesOf b)
-      here other own = found-there .held (has-premise r (says bytes r e .formed) other) (eqb-true there (r .premise) own)
+      here other own = sought .held (has-premise r (says bytes r e .formed) other) (eqb-true there (r .premise) own)
 
       out : eqb there (r .premise) ≡ false → Elsewhere past (r .premise) (filesOf b)
-      out other = found-there .free (eqb-false there (r .premise) other)
+      out other = sought .free (eqb-false there (r .premise) other)
 
       of-new : is kindCreate r ≡ true → Known bytes b past (onNew r (b .count) at there)
       of-new create =
           let kind = eqb-true (r .kind) kindCreate create in
           by-test (Known bytes b past) (eqb there (r .premise)) (Refused PremiseHeld)
           (cond (eqb (b .count) mostFiles) (Refused BookFull) (Opens at r))
-          (λ own. create-refused at (found-there .place) (here (ne-eqb (r .kind) kindDayMark (λ q. omega (arith, q, kind))) own) create)
+          (λ own. create-refused at (sought .place) (here (ne-eqb (r .kind) kindDayMark (λ q. omega (arith, q, kind))) own) create)
           (λ other. by-test (Known bytes b past) (eqb (b .count) mostFiles) (Refused BookFull) (Opens at r)
-          (full at (found-there .place) (out other) kind) (opens at (found-there .place) (out other) kind))
+          (full at (sought .place) (out other) kind) (opens at (sought .place) (out other) kind))
 
       of-held : needsPremise r ≡ true → Known bytes b past (onHeld r at there)
       of-held needs =
           by-test (Known bytes b past) (eqb there (r .premise)) (cond (is kindRetire r) (Closes at) (OnFile at r)) (Refused NoSuchPremise)
           (λ own. by-test (Known bytes b past) (is kindRetire r) (Closes at) (OnFile at r)
-          (λ retire. closes at (found-there .place) (here (needs-no-mark r needs) own) (eqb-true (r .kind) kindRetire retire))
-          (stands at (found-there .place) (here (needs-no-mark r needs) own) needs))
-          (λ other. needs-refused at (found-there .place) (out other) needs)
+          (λ retire. closes at (sought .place) (here (needs-no-mark r needs) own) (eqb-true (r .kind) kindRetire retire))
+          (stands at (sought .place) (here (needs-no-mark r needs) own) needs))
+          (λ other. needs-refused at (sought .place) (out other) needs)
 
     -- ---- a day mark
     of-mark : is kindDayMark r ≡ true → Known bytes b past (onMark (b .today) (r .day))

@@ -70,8 +70,7 @@ fn on_mark(day: u16, today: u16) -> Task
     Task::Refused(Answer::NotNextDay)
 }
 
-// What is to be done with a record. Its premise stands at the place or would stand there, and is held exactly if the number there is its
-// own.
+// What is to be done with a record whose premise stands at a place or would stand there: it is held exactly if the number there is its own.
 pub fn task_of(reading: Reading, today: u16, count: usize, at: usize, there: u64) -> Task
     requires { ⌜ today ≤ lastDay ⌝ }
     ensures { λ t. ⌜ t ≡ taskOf today count at there reading ⌝ }

@@ -22,9 +22,10 @@ pub fn record_end(from: usize, length: usize) -> usize
 }
 
 // Plays the records of a stretch of tape, one call each: as many as there are answers to note, and as long as any record's notices surely
-// find room. A premise is looked for in the book itself. A refusal leaves the book; a record on a premise that is held stores one file, a mark the files that it changes, and the
+// find room. A refusal leaves the book; a record on a premise that is held stores one file, a mark the files that it changes, and the
 // totals of waiting orders move with each of these and for no other; only a create and a retire, which are rare, move files. They move no
-// total: a new file holds no order, and one that is taken out has none open. (In this function: a call would hand the book over.)
+// total: a new file holds no order, and one that is taken out has none open. (Premises are looked for and files moved in this function: a
+// call would hand the book over.)
 pub fn play(
     calendar: &[u8],
     b: Book,

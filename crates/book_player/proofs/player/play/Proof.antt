@@ -108,9 +108,14 @@ loop2-again c =
     let i = c .before in
     seek-more (well-kept (stands (i .before .before)) .tidy) (i .before .loop2 .inv) (i .loop2-test .taken) (c .if3 .left)
 
+-- where the record's end was found
+abbrev cut : (k : tie.After-task-of Inv-loop2 μ-loop2 Inv-loop3 μ-loop3 Inv-loop4 μ-loop4 Inv-loop5 μ-loop5 Inv-loop μ-loop)
+    → tie.After-record-end Inv-loop2 μ-loop2 Inv-loop3 μ-loop3 Inv-loop4 μ-loop4 Inv-loop5 μ-loop5 Inv-loop μ-loop
+cut k = k .before .before .before .before .before .before
+
 -- what is known of the record by what is to be done with it
 told : (k : tie.After-task-of Inv-loop2 μ-loop2 Inv-loop3 μ-loop3 Inv-loop4 μ-loop4 Inv-loop5 μ-loop5 Inv-loop μ-loop)
-    → (let m = k .before .before .before .before .before .before in
+    → (let m = cut k in
     let l = m .before .before .before .before in
     Known (take (m .record-end .result - l .loop .from) (drop (l .loop .from) (began l .args .tape .now))) (l .loop .c) past
     (k .task-of .result))
@@ -125,7 +130,8 @@ told k =
     (k .task-of .ensures)
 
 -- ---- the record's premise is held
-held-at : (d : tie.After-task2 Inv-loop2 μ-loop2 Inv-loop3 μ-loop3 Inv-loop4 μ-loop4 Inv-loop5 μ-loop5 Inv-loop μ-loop) → d .task2 .given .0 .0 < mostFiles
+held-at : (d : tie.After-task2 Inv-loop2 μ-loop2 Inv-loop3 μ-loop3 Inv-loop4 μ-loop4 Inv-loop5 μ-loop5 Inv-loop μ-loop)
+    → d .task2 .given .0 .0 < mostFiles
 held-at d =
     let k = d .before .before in
     held-place (stands (k .before .before .before)) _ (told k) (d .task2 .given .1)
@@ -168,9 +174,6 @@ marks-width : (k : tie.After-struct-known Inv-loop2 μ-loop2 Inv-loop3 μ-loop3 
     let width = getD (l .c .files) (l .place) past .window in
     (1 ≤ width) × (width ≤ mostWidth))
 marks-width k = let i = k .before .before in mark-width (i .before .loop3 .inv) (i .loop3-test .taken)
-
-mark-changes-file-requires : tie.Need-mark-changes-file-requires Inv-loop2 μ-loop2 Inv-loop3 μ-loop3 Inv-loop4 μ-loop4 Inv-loop5 μ-loop5 Inv-loop μ-loop
-mark-changes-file-requires c κs = let i = c .before .before in mark-tidy (i .before .loop3 .inv) (i .loop3-test .taken)
 
 mark-requires : tie.Need-mark-requires Inv-loop2 μ-loop2 Inv-loop3 μ-loop3 Inv-loop4 μ-loop4 Inv-loop5 μ-loop5 Inv-loop μ-loop
 mark-requires c κs =
@@ -218,7 +221,8 @@ loop4-again : tie.Need-loop4-again Inv-loop2 μ-loop2 Inv-loop3 μ-loop3 Inv-loo
 loop4-again c = let i = c .before in open-more (i .before .loop4 .inv) (i .loop4-test .taken)
 
 -- ---- it closes one
-close-at : (d : tie.After-task5 Inv-loop2 μ-loop2 Inv-loop3 μ-loop3 Inv-loop4 μ-loop4 Inv-loop5 μ-loop5 Inv-loop μ-loop) → d .task5 .given .0 .0 < mostFiles
+close-at : (d : tie.After-task5 Inv-loop2 μ-loop2 Inv-loop3 μ-loop3 Inv-loop4 μ-loop4 Inv-loop5 μ-loop5 Inv-loop μ-loop)
+    → d .task5 .given .0 .0 < mostFiles
 close-at d =
     let k = d .before .before in
     close-place (stands (k .before .before .before)) _ (told k) (d .task5 .given .1)
@@ -244,14 +248,9 @@ loop5-again : tie.Need-loop5-again Inv-loop2 μ-loop2 Inv-loop3 μ-loop3 Inv-loo
 loop5-again c = let i = c .before in close-more (i .before .loop5 .inv) (i .loop5-test .taken) refl
 
 -- ---- its call is made, by one of the six ways
--- where the record's end was found
-abbrev cut : (x : tie.At-match-came Inv-loop2 μ-loop2 Inv-loop3 μ-loop3 Inv-loop4 μ-loop4 Inv-loop5 μ-loop5 Inv-loop μ-loop)
-    → tie.After-record-end Inv-loop2 μ-loop2 Inv-loop3 μ-loop3 Inv-loop4 μ-loop4 Inv-loop5 μ-loop5 Inv-loop μ-loop
-cut x = x .before .before .before .before .before .before .before
-
 abbrev MadeAt : tie.At-match-came Inv-loop2 μ-loop2 Inv-loop3 μ-loop3 Inv-loop4 μ-loop4 Inv-loop5 μ-loop5 Inv-loop μ-loop → Type 0
 MadeAt c =
-    let m = cut c in
+    let m = cut (c .before) in
     let l = m .before .before .before .before in
     let a = began l .args in
     Made (a .calendar .now) (l .loop .c) (take (m .record-end .result - l .loop .from) (drop (l .loop .from) (a .tape .now)))
@@ -286,7 +285,7 @@ made c =
 sub-counts : tie.Need-sub-counts Inv-loop2 μ-loop2 Inv-loop3 μ-loop3 Inv-loop4 μ-loop4 Inv-loop5 μ-loop5 Inv-loop μ-loop
 sub-counts c =
     let x = c .before .before in
-    let m = cut x in
+    let m = cut (x .before) in
     let e = m .before in
     let i = e .before .before in
     omega (
@@ -297,7 +296,7 @@ sub-counts c =
 cast-counts : tie.Need-cast-counts Inv-loop2 μ-loop2 Inv-loop3 μ-loop3 Inv-loop4 μ-loop4 Inv-loop5 μ-loop5 Inv-loop μ-loop
 cast-counts c =
     let x = c .before .before in
-    let m = cut x in
+    let m = cut (x .before) in
     let e = m .before in
     let i = e .before .before in
     omega (
@@ -308,13 +307,13 @@ cast-counts c =
 -- where the record was reached
 abbrev reached : (c : tie.After-row-known Inv-loop2 μ-loop2 Inv-loop3 μ-loop3 Inv-loop4 μ-loop4 Inv-loop5 μ-loop5 Inv-loop μ-loop)
     → tie.In-loop Inv-loop2 μ-loop2 Inv-loop3 μ-loop3 Inv-loop4 μ-loop4 Inv-loop5 μ-loop5 Inv-loop μ-loop
-reached c = cut (c .before .before) .before .before .before
+reached c = cut (c .before .before .before) .before .before .before
 
 loop-again : tie.Need-loop-again Inv-loop2 μ-loop2 Inv-loop3 μ-loop3 Inv-loop4 μ-loop4 Inv-loop5 μ-loop5 Inv-loop μ-loop
 loop-again c =
     let n = c .before in
     let x = n .before in
-    let m = cut x in
+    let m = cut (x .before) in
     let e = m .before in
     let i = e .before .before in
     playing-more (i .before .loop .inv) (i .loop-test .taken) (e .before .if1 .left) (room-left e) (m .record-end .result) (made x)
@@ -374,7 +373,7 @@ play-spec =
     (λ c. omega (arith, marks-width c .0))
     (λ c. omega (arith, marks-width c .1))
     (λ c. omega (arith, marks-width c .0, marks-width c .1))
-    mark-changes-file-requires
+    (λ c κs. let i = c .before .before in mark-tidy (i .before .loop3 .inv) (i .loop3-test .taken))
     (λ c. omega (arith, marks-within (c .before .before .before .before)))
     (λ c. omega (arith, marks-within (c .before .before .before .before)))
     mark-requires
@@ -414,7 +413,7 @@ play-spec =
     (λ c. omega (arith, c .before .before .loop5 .inv .tidy .few))
     (λ c. omega (arith, c .before .before .loop5 .inv .tidy .few))
     (λ c κs. tt)
-    (λ c. cut (c .before) .before .before .before .loop-test .taken)
+    (λ c. cut (c .before .before) .before .before .before .loop-test .taken)
     sub-counts
     cast-counts
     (λ c. let l = reached c .before in omega (

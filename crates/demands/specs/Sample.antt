@@ -29,38 +29,43 @@ plays calendar b [] = []
 plays calendar b (bytes ∷ tape) = let x = call calendar b bytes lent in made bytes x ∷ plays calendar (x .book) tape
 
 -- ---- the records
+-- a record or a notice of which no field has more than one byte that is not zero, but for the day
+abbrev pub plain : ℕ → ℕ → ℕ → ℕ → ℕ → ℕ → ℕ → List ℕ
+plain kind detail low high reference premise retailer =
+    kind ∷ detail ∷ low ∷ high ∷ reference ∷ 0 ∷ 0 ∷ 0 ∷ premise ∷ 0 ∷ 0 ∷ 0 ∷ 0 ∷ 0 ∷ 0 ∷ 0 ∷ retailer ∷ 0 ∷ 0 ∷ 0 ∷ 0 ∷ 0 ∷ 0 ∷ 0 ∷ []
+
 -- create 7, retailer 101, and create 5, retailer 102, both on day 0
 unfoldable pub create7 : List ℕ
-create7 = 1 ∷ 0 ∷ 0 ∷ 0 ∷ 0 ∷ 0 ∷ 0 ∷ 0 ∷ 7 ∷ 0 ∷ 0 ∷ 0 ∷ 0 ∷ 0 ∷ 0 ∷ 0 ∷ 101 ∷ 0 ∷ 0 ∷ 0 ∷ 0 ∷ 0 ∷ 0 ∷ 0 ∷ []
+create7 = plain 1 0 0 0 0 7 101
 
 unfoldable pub create5 : List ℕ
-create5 = 1 ∷ 0 ∷ 0 ∷ 0 ∷ 0 ∷ 0 ∷ 0 ∷ 0 ∷ 5 ∷ 0 ∷ 0 ∷ 0 ∷ 0 ∷ 0 ∷ 0 ∷ 0 ∷ 102 ∷ 0 ∷ 0 ∷ 0 ∷ 0 ∷ 0 ∷ 0 ∷ 0 ∷ []
+create5 = plain 1 0 0 0 0 5 102
 
 -- an order on each: of 7 a standard switch, reference 1 to retailer 202; of 5 a move in for day 2, reference 9 to retailer 203
 unfoldable pub order7 : List ℕ
-order7 = 3 ∷ 3 ∷ 0 ∷ 0 ∷ 1 ∷ 0 ∷ 0 ∷ 0 ∷ 7 ∷ 0 ∷ 0 ∷ 0 ∷ 0 ∷ 0 ∷ 0 ∷ 0 ∷ 202 ∷ 0 ∷ 0 ∷ 0 ∷ 0 ∷ 0 ∷ 0 ∷ 0 ∷ []
+order7 = plain 3 3 0 0 1 7 202
 
 unfoldable pub order5 : List ℕ
-order5 = 3 ∷ 1 ∷ 2 ∷ 0 ∷ 9 ∷ 0 ∷ 0 ∷ 0 ∷ 5 ∷ 0 ∷ 0 ∷ 0 ∷ 0 ∷ 0 ∷ 0 ∷ 0 ∷ 203 ∷ 0 ∷ 0 ∷ 0 ∷ 0 ∷ 0 ∷ 0 ∷ 0 ∷ []
+order5 = plain 3 1 2 0 9 5 203
 
 -- the move in's date changed to day 4, with counter 6
 unfoldable pub change5 : List ℕ
-change5 = 11 ∷ 0 ∷ 4 ∷ 0 ∷ 9 ∷ 0 ∷ 0 ∷ 0 ∷ 5 ∷ 0 ∷ 0 ∷ 0 ∷ 0 ∷ 0 ∷ 0 ∷ 0 ∷ 6 ∷ 0 ∷ 0 ∷ 0 ∷ 0 ∷ 0 ∷ 0 ∷ 0 ∷ []
+change5 = plain 11 0 4 0 9 5 6
 
 -- an agreement of the owner of 7 with retailer 204
 unfoldable pub establish7 : List ℕ
-establish7 = 12 ∷ 1 ∷ 0 ∷ 0 ∷ 0 ∷ 0 ∷ 0 ∷ 0 ∷ 7 ∷ 0 ∷ 0 ∷ 0 ∷ 0 ∷ 0 ∷ 0 ∷ 0 ∷ 204 ∷ 0 ∷ 0 ∷ 0 ∷ 0 ∷ 0 ∷ 0 ∷ 0 ∷ []
+establish7 = plain 12 1 0 0 0 7 204
 
 -- both scheduled for day 3, which is out of window on day 0
 unfoldable pub scheduled7 : List ℕ
-scheduled7 = 4 ∷ 0 ∷ 3 ∷ 0 ∷ 1 ∷ 0 ∷ 0 ∷ 0 ∷ 7 ∷ 0 ∷ 0 ∷ 0 ∷ 0 ∷ 0 ∷ 0 ∷ 0 ∷ 0 ∷ 0 ∷ 0 ∷ 0 ∷ 0 ∷ 0 ∷ 0 ∷ 0 ∷ []
+scheduled7 = plain 4 0 3 0 1 7 0
 
 unfoldable pub scheduled5 : List ℕ
-scheduled5 = 4 ∷ 0 ∷ 3 ∷ 0 ∷ 9 ∷ 0 ∷ 0 ∷ 0 ∷ 5 ∷ 0 ∷ 0 ∷ 0 ∷ 0 ∷ 0 ∷ 0 ∷ 0 ∷ 0 ∷ 0 ∷ 0 ∷ 0 ∷ 0 ∷ 0 ∷ 0 ∷ 0 ∷ []
+scheduled5 = plain 4 0 3 0 9 5 0
 
 -- day 1, on which both are in window
 unfoldable pub mark1 : List ℕ
-mark1 = 10 ∷ 0 ∷ 1 ∷ 0 ∷ 0 ∷ 0 ∷ 0 ∷ 0 ∷ 0 ∷ 0 ∷ 0 ∷ 0 ∷ 0 ∷ 0 ∷ 0 ∷ 0 ∷ 0 ∷ 0 ∷ 0 ∷ 0 ∷ 0 ∷ 0 ∷ 0 ∷ 0 ∷ []
+mark1 = plain 10 0 1 0 0 0 0
 
 unfoldable pub malformed : List ℕ
 malformed = 3 ∷ []
@@ -90,28 +95,28 @@ again = plays calendar (freshBook 0) shuffled
 -- ---- the notices: the order and its new date to the TDSP, the agreement to its retailer, the order's day to the new retailer, and on the
 -- mark to the retailer that loses the premise
 unfoldable pub ordered7 : List ℕ
-ordered7 = 1 ∷ 3 ∷ 0 ∷ 0 ∷ 1 ∷ 0 ∷ 0 ∷ 0 ∷ 7 ∷ 0 ∷ 0 ∷ 0 ∷ 0 ∷ 0 ∷ 0 ∷ 0 ∷ 0 ∷ 0 ∷ 0 ∷ 0 ∷ 0 ∷ 0 ∷ 0 ∷ 0 ∷ []
+ordered7 = plain 1 3 0 0 1 7 0
 
 unfoldable pub agreed7 : List ℕ
-agreed7 = 11 ∷ 0 ∷ 0 ∷ 0 ∷ 0 ∷ 0 ∷ 0 ∷ 0 ∷ 7 ∷ 0 ∷ 0 ∷ 0 ∷ 0 ∷ 0 ∷ 0 ∷ 0 ∷ 204 ∷ 0 ∷ 0 ∷ 0 ∷ 0 ∷ 0 ∷ 0 ∷ 0 ∷ []
+agreed7 = plain 11 0 0 0 0 7 204
 
 unfoldable pub dated7 : List ℕ
-dated7 = 3 ∷ 3 ∷ 3 ∷ 0 ∷ 1 ∷ 0 ∷ 0 ∷ 0 ∷ 7 ∷ 0 ∷ 0 ∷ 0 ∷ 0 ∷ 0 ∷ 0 ∷ 0 ∷ 202 ∷ 0 ∷ 0 ∷ 0 ∷ 0 ∷ 0 ∷ 0 ∷ 0 ∷ []
+dated7 = plain 3 3 3 0 1 7 202
 
 unfoldable pub losing7 : List ℕ
-losing7 = 4 ∷ 3 ∷ 3 ∷ 0 ∷ 1 ∷ 0 ∷ 0 ∷ 0 ∷ 7 ∷ 0 ∷ 0 ∷ 0 ∷ 0 ∷ 0 ∷ 0 ∷ 0 ∷ 101 ∷ 0 ∷ 0 ∷ 0 ∷ 0 ∷ 0 ∷ 0 ∷ 0 ∷ []
+losing7 = plain 4 3 3 0 1 7 101
 
 unfoldable pub ordered5 : List ℕ
-ordered5 = 1 ∷ 1 ∷ 2 ∷ 0 ∷ 9 ∷ 0 ∷ 0 ∷ 0 ∷ 5 ∷ 0 ∷ 0 ∷ 0 ∷ 0 ∷ 0 ∷ 0 ∷ 0 ∷ 0 ∷ 0 ∷ 0 ∷ 0 ∷ 0 ∷ 0 ∷ 0 ∷ 0 ∷ []
+ordered5 = plain 1 1 2 0 9 5 0
 
 unfoldable pub changed5 : List ℕ
-changed5 = 9 ∷ 1 ∷ 4 ∷ 0 ∷ 9 ∷ 0 ∷ 0 ∷ 0 ∷ 5 ∷ 0 ∷ 0 ∷ 0 ∷ 0 ∷ 0 ∷ 0 ∷ 0 ∷ 0 ∷ 0 ∷ 0 ∷ 0 ∷ 0 ∷ 0 ∷ 0 ∷ 0 ∷ []
+changed5 = plain 9 1 4 0 9 5 0
 
 unfoldable pub dated5 : List ℕ
-dated5 = 3 ∷ 1 ∷ 3 ∷ 0 ∷ 9 ∷ 0 ∷ 0 ∷ 0 ∷ 5 ∷ 0 ∷ 0 ∷ 0 ∷ 0 ∷ 0 ∷ 0 ∷ 0 ∷ 203 ∷ 0 ∷ 0 ∷ 0 ∷ 0 ∷ 0 ∷ 0 ∷ 0 ∷ []
+dated5 = plain 3 1 3 0 9 5 203
 
 unfoldable pub losing5 : List ℕ
-losing5 = 4 ∷ 1 ∷ 3 ∷ 0 ∷ 9 ∷ 0 ∷ 0 ∷ 0 ∷ 5 ∷ 0 ∷ 0 ∷ 0 ∷ 0 ∷ 0 ∷ 0 ∷ 0 ∷ 102 ∷ 0 ∷ 0 ∷ 0 ∷ 0 ∷ 0 ∷ 0 ∷ 0 ∷ []
+losing5 = plain 4 1 3 0 9 5 102
 
 -- what stands in each call's buffer on return
 unfoldable pub buffers : List Made → List (List (List ℕ))

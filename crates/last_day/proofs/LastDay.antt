@@ -29,10 +29,10 @@ use Rattle.book.specs.Totals.{waitingIn}
 use Rattle.book.specs.Book.{freshBook, bookOf, bookKeptBy, fileFor, putIn, takenOut}
 use Rattle.book.specs.Calls.{noticeBytes, callRowsBy, callBy}
 use Rattle.demands.specs.Demand3.{Made, Played, lastBook, Premise, records, withPremise, noticesFor, ruledNotices}
-use Rattle.demands.specs.Sample.{lent, made, plays}
+use Rattle.demands.specs.Sample.{lent, made, plays, create7, create5}
 use Rattle.demands.specs.Tapes.{Plays, tapeOf, ownOf}
 use Rattle.demands.specs.Rearranged.{NobodySees}
-use Rattle.last_day.specs.LastDay.{create7, create5, switch7, switch5, scheduled7, scheduled5, mark, retire6, oneByte}
+use Rattle.last_day.specs.LastDay.{switch7, switch5, scheduled7, scheduled5, mark, retire6, oneByte}
 use Rattle.last_day.specs.LastDay.{notices7, notices5, switchOf, fileOf, Call, OneByOne, bookAfter, rowsOf, naming, OnTheLastDay}
 use Rattle.last_day.specs.LastDay.{tape, answers₁}
 use Rattle.last_day.specs.LastDay.{tape₂, answers₂, tape₃, answers₃, LastDay}

@@ -19,19 +19,9 @@ use Rattle.book.specs.declared.Book.{Book}
 use Rattle.book.specs.declared.Reply.{Reply}
 use Rattle.book.specs.Book.{bookOf, freshBook}
 use Rattle.book.specs.Promise.{Promised}
+use Rattle.demands.specs.Sample.{plain, create7, create5}
 
--- ---- records and notices: day 4,095 is 255 and 15, low byte first; of the other fields one byte is not zero
-abbrev pub plain : ℕ → ℕ → ℕ → ℕ → ℕ → ℕ → ℕ → List ℕ
-plain kind detail low high reference premise retailer =
-    kind ∷ detail ∷ low ∷ high ∷ reference ∷ 0 ∷ 0 ∷ 0 ∷ premise ∷ 0 ∷ 0 ∷ 0 ∷ 0 ∷ 0 ∷ 0 ∷ 0 ∷ retailer ∷ 0 ∷ 0 ∷ 0 ∷ 0 ∷ 0 ∷ 0 ∷ 0 ∷ []
-
--- create: premise 7 with retailer 101, premise 5 with 102
-unfoldable pub create7 : List ℕ
-create7 = plain 1 0 0 0 0 7 101
-
-unfoldable pub create5 : List ℕ
-create5 = plain 1 0 0 0 0 5 102
-
+-- ---- records and notices: day 4,095 is 255 and 15, low byte first
 -- a self-selected switch for day 4,095 on each: reference 1 to retailer 202, reference 9 to 203
 unfoldable pub switch7 : List ℕ
 switch7 = plain 3 4 255 15 1 7 202

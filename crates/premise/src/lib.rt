@@ -37,7 +37,7 @@ pub struct BusinessDays(pub u8);
 // given business days.
 pub struct CalendarDays(pub u8);
 
-// An order. The widest fields come first, so that no bytes lie between them: an order is copied whole, and a copy of odd bytes takes longer.
+// An order. The widest fields come first, so that no bytes lie between them: an order is copied whole, and odd bytes take longer.
 pub struct Order {
     // the submitting retailer, for a drop the gaining one
     pub submitter: u64,

@@ -24,8 +24,7 @@ use Rattle.book.specs.Totals.{waitingIn}
 use Rattle.book.specs.Book.{bookOf, bookKeptBy, filesOf, freshBook, fileFor, putIn, takenOut}
 use Rattle.book.specs.Calls.{call, callRowsBy, callBy}
 use Rattle.demands.specs.Demand3.{Made, lastBook}
-use Rattle.demands.specs.Sample.{lent, made, plays}
-use Rattle.last_day.specs.LastDay.{create7}
+use Rattle.demands.specs.Sample.{lent, made, plays, create7}
 use Rattle.retailer_shares.specs.SharesSample.{dropOf, beginning, tape, sample, third, dropped, file7, found, Comes}
 use Rattle.demands.proofs.ByDefinition.{promised}
 use Rattle.retailer_shares.proofs.Shares.{no-retailer-fills, room-for-others}

@@ -11,8 +11,7 @@ use Rattle.premise.specs.Refusals.{number}
 use Rattle.book.specs.declared.Book.{Book}
 use Rattle.book.specs.Book.{filesOf, freshBook}
 use Rattle.demands.specs.Demand3.{Made, lastBook}
-use Rattle.demands.specs.Sample.{lent, plays}
-use Rattle.last_day.specs.LastDay.{plain, create7}
+use Rattle.demands.specs.Sample.{lent, plays, plain, create7}
 use Rattle.retailer_shares.specs.Shares.{HasRoom}
 
 -- a drop on premise 7 for day 5, by its reference and its retailer: no limit of days refuses it

@@ -23,8 +23,7 @@ use Rattle.premise.specs.OnePremise.{markedWith, steppedWith, stepWith}
 use Rattle.book.specs.Totals.{waitingIn}
 use Rattle.book.specs.Book.{bookOf, bookKeptBy, fileFor, putIn, takenOut}
 use Rattle.book.specs.Calls.{callRowsBy, callBy}
-use Rattle.demands.specs.Sample.{lent}
-use Rattle.last_day.specs.LastDay.{oneByte}
+use Rattle.demands.specs.Sample.{lent, malformed}
 use Rattle.same_outcomes.specs.WindowSample.{asking, create, switch, scheduled, mark, shortMark, oneAlone, withDetail0, withDetail5}
 use Rattle.same_outcomes.specs.WindowSample.{outcomes, answers, told, announced, dated, losing, Comes, DetailTells}
 use Rattle.same_outcomes.proofs.WindowOfTwo.{window-of-two}
@@ -34,7 +33,7 @@ unfolding reviewed permitAwaited cancelAwaited ticked contends switchOfDay gives
     permitOvertaken isDue lossNotice evaluation refuses standsInWay notFirstIn markedWith steppedWith stepWith places number premiseRows
     orderRows requestedDay makeRoom ordered taken onScheduled onPermit onUnexecutable onRead supplied onCancel onReply onOrder onDateChange
     onNamed agreed changed orderKeptBy isBlank fileKeptBy fileBlank fieldOf encodeBy wellFormedBy readingBy kindOfDay isBusinessDay
-    switchDate businessDays inWindow waitingIn bookOf bookKeptBy fileFor putIn takenOut callRowsBy callBy lent oneByte asking create switch
+    switchDate businessDays inWindow waitingIn bookOf bookKeptBy fileFor putIn takenOut callRowsBy callBy lent malformed asking create switch
     scheduled mark shortMark oneAlone withDetail0 withDetail5 outcomes answers told announced dated losing
 comes = record {
   no-detail = (λ e. refl, (λ e. absurd (false≢true e), (λ e. refl, (tt, (tt, (λ e. refl, (λ e. refl, tt)))))));

@@ -10,8 +10,7 @@ use Rattle.premise.specs.Orders.{keptWidth}
 use Rattle.book.specs.declared.Book.{Book}
 use Rattle.book.specs.Book.{freshBook}
 use Rattle.book.specs.Calls.{callBy}
-use Rattle.demands.specs.Sample.{lent}
-use Rattle.last_day.specs.LastDay.{plain}
+use Rattle.demands.specs.Sample.{lent, plain}
 use Rattle.same_outcomes.specs.Outcomes.{Outcome, ToMake, outcomesBy}
 use Rattle.same_outcomes.specs.EitherWidth.{NoLongRetailer}
 

@@ -8,8 +8,7 @@ use Rattle.records.specs.Notices.{rows}
 use Rattle.premise.specs.declared.File.{File}
 use Rattle.premise.specs.Orders.{keptWidth, always}
 use Rattle.book.specs.Book.{freshBook}
-use Rattle.demands.specs.Sample.{lent}
-use Rattle.last_day.specs.LastDay.{plain, oneByte}
+use Rattle.demands.specs.Sample.{lent, plain, malformed}
 use Rattle.same_outcomes.specs.Outcomes.{Outcome, ToMake}
 use Rattle.same_outcomes.specs.WindowOfTwo.{outcomesWith, NoCreateHasDetail}
 
@@ -37,7 +36,7 @@ shortMark = record { bytes = plain 10 0 11 0 0 0 0; lent = 9 ∷ [] }
 
 -- bytes that are malformed: one alone, and a create of detail 6
 unfoldable pub oneAlone : ToMake
-oneAlone = asking oneByte
+oneAlone = asking malformed
 
 unfoldable pub withDetail0 : List ToMake
 withDetail0 = create 0 ∷ switch ∷ shortMark ∷ oneAlone ∷ create 6 ∷ scheduled ∷ mark ∷ []

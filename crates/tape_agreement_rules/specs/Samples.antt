@@ -10,8 +10,7 @@ use Rattle.records.specs.Layout.{recordLength}
 use Rattle.premise.specs.Refusals.{number}
 use Rattle.book.specs.Book.{filesOf, freshBook}
 use Rattle.demands.specs.Demand3.{Made, lastBook, SameBooks}
-use Rattle.demands.specs.Sample.{plays, create7, create5, order7, order5, scheduled7, scheduled5, mark1, malformed, calendar}
-use Rattle.last_day.specs.LastDay.{plain}
+use Rattle.demands.specs.Sample.{plays, plain, create7, create5, order7, order5, scheduled7, scheduled5, mark1, malformed, calendar}
 use Rattle.tape_agreement_rules.specs.declared.Agreement.the-variants.{Same}
 use Rattle.tape_agreement_rules.specs.Agreement.{saysYes, numberGiven, agreement, Compared}
 

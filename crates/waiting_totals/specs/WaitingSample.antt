@@ -5,8 +5,7 @@ use mathlib.Core.List.{List, [], _∷_, _++_}
 use Rattle.book.specs.declared.Waiting.{Waiting}
 use Rattle.book.specs.Book.{freshBook}
 use Rattle.demands.specs.Demand3.{Made, lastBook}
-use Rattle.demands.specs.Sample.{plays, calendar, create7, order7}
-use Rattle.last_day.specs.LastDay.{plain}
+use Rattle.demands.specs.Sample.{plays, plain, calendar, create7, order7}
 
 -- In Review, Permit Pending, Scheduled, Cancel Pending
 abbrev pub four : ℕ → ℕ → ℕ → ℕ → Waiting

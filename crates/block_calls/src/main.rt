@@ -7,6 +7,8 @@
 // Its lines: `c` place answer played written; `a` i byte for each record played, i from 0; `n` .. for each notice written; `x` place byte
 // for each notice byte past those written that is no longer 165; `y` place byte for each answer byte past the number played that is no
 // longer 165; then the book's lines.
+#![tactic(auto)]
+
 ghost use Rattle.std.specs.Prelude.{◌≤◌, length};
 
 use book::Book;

@@ -1,5 +1,7 @@
 // The block sheet's program: it plays a tape, reads the rows of blocks from blocks.bin, fills them in from the book and prints them. What
 // it prints is proved up to the buffer (`sheet_in`); what can't be read or written is told on standard error, and then nothing is printed.
+#![tactic(auto)]
+
 mod lines;
 mod row_bytes;
 

@@ -1,5 +1,7 @@
 // The book layer's rules: today and up to 64 files. Here stand its types; what a record call does stands in specs/, from document 01's
 // section "The book". `book_files` and `book_calls` do in code what the definitions say; the three demands stand in `demands`.
+#![tactic(auto)]
+
 use premise::{Answer, File};
 
 // How many files a book holds at most.
@@ -8,7 +10,7 @@ pub const MOST_FILES: usize = 64;
 pub const NOTICE_BYTES: usize = 24_576;
 
 // How many of the orders that a book's files hold are In Review, Permit Pending, Scheduled and Cancel Pending. (There are at most 512.)
-#[derive(Drop)]
+#[derive(Clone, Copy)]
 pub struct Waiting {
     pub review: u16,
     pub permit: u16,
@@ -17,7 +19,7 @@ pub struct Waiting {
 }
 
 // The book, handed over by value. The first `count` places of `files` hold its files, in rising premise numbers; the others are zero.
-#[derive(Drop)]
+#[derive(Clone, Copy)]
 pub struct Book {
     pub today: u16,
     pub count: usize,
@@ -27,7 +29,7 @@ pub struct Book {
 }
 
 // What a record call returns: the answer, how many notices stand in the buffer, and the book afterwards.
-#[derive(Drop)]
+#[derive(Clone, Copy)]
 pub struct Reply {
     pub answer: Answer,
     pub sent: usize,
@@ -36,7 +38,7 @@ pub struct Reply {
 
 // What record calls in a row return: how many records were played, how many notices stand in the buffer, the answer of the last record, and
 // the book afterwards.
-#[derive(Drop)]
+#[derive(Clone, Copy)]
 pub struct Playback {
     pub played: usize,
     pub sent: usize,

@@ -8,7 +8,7 @@ use premise::Answer;
 use records::{Reading, Record, record_kind};
 
 // What is to be done with a record.
-#[derive(Drop)]
+#[derive(Clone, Copy)]
 pub enum Task {
     // It is refused, whatever the files hold.
     Refused(Answer),

@@ -6,7 +6,7 @@ use book::Book;
 const NO_LENGTH: usize = usize::MAX;
 
 // A book, if one came.
-#[derive(Drop)]
+#[derive(Clone, Copy)]
 pub struct BookTaken {
     pub came: bool,
     pub book: Book,

@@ -6,6 +6,8 @@
 //
 // What is said is proved in `tape_agreement`; here the tapes are read and handed over. A tape that is not read whole gets no answer: one
 // about its beginning would say nothing of the tape. What is wrong, and what to do, goes to standard error.
+#![tactic(auto)]
+
 ghost use Rattle.std.specs.Prelude.{◌≡◌, ◌++◌, ◌+◌, ◌≤◌, length, drop};
 ghost use Rattle.compare_tapes.specs.Sizes.{room_for_tape};
 

@@ -6,6 +6,8 @@
 //
 // What is written is proved in `first_fittings`; here a tape is read and handed over. One that is refused has nothing on standard output,
 // and on standard error the answer's number and what to do.
+#![tactic(auto)]
+
 ghost use Rattle.std.specs.Prelude.{◌≡◌, ◌≤◌, length};
 ghost use Rattle.convert.specs.Sizes.{most_in, most_out};
 
@@ -17,7 +19,7 @@ const MOST_IN: usize = 1_048_560;
 const MOST_OUT: usize = 1_258_272;
 
 // What the second word says of the room to write to: whether it is clear, whether it gives any, and how many bytes.
-#[derive(Drop)]
+#[derive(Clone, Copy)]
 struct Room {
     clear: bool,
     given: bool,

@@ -1,5 +1,7 @@
 // The days layer. Its numbers; its rules stand in specs/, from document 01's section "Days". A calendar is lent bytes, one per day; each
 // function answers for every calendar and every day number.
+#![tactic(auto)]
+
 mod kinds;
 mod searches;
 

@@ -1,6 +1,8 @@
 // esi DIRECTORY TEXT..: looks each text up in a directory of ESI IDs, and prints a line for each, the answer's number and the premise
 // number.
 // The directory is tested once. What is wrong, and what to do, goes to standard error, and then no line is printed.
+#![tactic(auto)]
+
 mod lines;
 
 ghost use Rattle.std.specs.Prelude.{◌≡◌, ◌≤◌, length};

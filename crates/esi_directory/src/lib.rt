@@ -1,5 +1,7 @@
 // The directory of ESI IDs in code: `look_up` for one text; `is_sound`, and `find` for many texts in a directory that was tested once. The
 // definitions stand in `esi_rules`.
+#![tactic(auto)]
+
 mod halves;
 mod keys;
 mod search;

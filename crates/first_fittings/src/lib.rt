@@ -1,5 +1,7 @@
 // Change 9 of document 02: the converter each way between the first fittings' records and ours, in code; its rules stand in
 // `first_fittings_rules`. Neither call asks anything of its caller: every tape and every buffer is answered.
+#![tactic(auto)]
+
 ghost use Rattle.std.specs.Prelude.{◌≡◌, ◌++◌, ◌*◌, ◌/◌, ◌≤◌, length, drop};
 ghost use Rattle.lists.specs.Search.{any_of};
 ghost use Rattle.first_fittings_rules.specs.Layout.{old_length, our_length, turned_record, records_of};

@@ -1,7 +1,9 @@
 // Change 9 of document 02: a converter each way between the first fittings' records of 20 bytes, each field high byte first, and ours of 24
 // bytes, low byte first. Here stand its types; what a call gives, and the theorem that nothing is lost there and back, stand in specs/.
 // Only lengths and the last four bytes of our records are judged, so that a tape goes through whatever its records say.
-#[derive(Drop)]
+#![tactic(auto)]
+
+#[derive(Clone, Copy)]
 pub enum Answer {
     Converted,
     // the input is no whole number of records
@@ -13,7 +15,7 @@ pub enum Answer {
 }
 
 // What a call gives back: its answer, and how many bytes it wrote.
-#[derive(Drop)]
+#[derive(Clone, Copy)]
 pub struct Conversion {
     pub answer: Answer,
     pub written: usize,

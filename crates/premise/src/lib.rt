@@ -1,6 +1,7 @@
 // The premise layer's rules: one premise, its file and its orders. Here stand its types; the rules over them stand in specs/, section by
 // section from document 01, with the set pieces. What the layer above may rely on is stated in specs/Laws.antt, and of the steps in
 // `premise_laws`. The crates `premise_file` to `premise_steps` do in code what the rules say.
+#![tactic(auto)]
 
 // How many orders a file holds at most, and how many open ones of one retailer.
 pub const MOST_ORDERS: usize = 8;
@@ -31,16 +32,16 @@ pub const CANCELLED: u8 = 6;
 pub const UNEXECUTABLE: u8 = 7;
 
 // A count of Retail Business Days: how long an order has waited.
-#[derive(Drop)]
+#[derive(Clone, Copy)]
 pub struct BusinessDays(pub u8);
 
 // A count of calendar days: how long an order has been in Cancel Pending. A type of its own, so that a wait in calendar days can't be
 // given business days.
-#[derive(Drop)]
+#[derive(Clone, Copy)]
 pub struct CalendarDays(pub u8);
 
 // An order. The widest fields come first, so that no bytes lie between them: an order is copied whole, and odd bytes take longer.
-#[derive(Drop)]
+#[derive(Clone, Copy)]
 pub struct Order {
     // the submitting retailer, for a drop the gaining one
     pub submitter: u64,
@@ -59,7 +60,7 @@ pub struct Order {
 }
 
 // A premise's file. The first `count` places of `orders` hold its orders, oldest first; the others are zero.
-#[derive(Drop)]
+#[derive(Clone, Copy)]
 pub struct File {
     pub premise: u64,
     // its retailer, 0 where the premise is de-energized
@@ -78,7 +79,7 @@ pub struct File {
 
 // What a call answers: a name for each row of document 01's table of refusals, with the rows of document 02's changes 1, 3 and 12, and
 // one for acceptance.
-#[derive(Drop)]
+#[derive(Clone, Copy)]
 pub enum Answer {
     Accepted,
     ShortBuffer,
@@ -103,21 +104,21 @@ pub enum Answer {
 }
 
 // An order after a step, and how many notices stand in the buffer then.
-#[derive(Drop)]
+#[derive(Clone, Copy)]
 pub struct OrderAfter {
     pub order: Order,
     pub sent: usize,
 }
 
 // A file after a pass or a day mark, and how many notices stand in the buffer then.
-#[derive(Drop)]
+#[derive(Clone, Copy)]
 pub struct FileAfter {
     pub file: File,
     pub sent: usize,
 }
 
 // What a record that leaves its premise's file gives: the answer, how many notices stand in the buffer, and the file afterwards.
-#[derive(Drop)]
+#[derive(Clone, Copy)]
 pub struct PremiseAfter {
     pub answer: Answer,
     pub sent: usize,

@@ -11,7 +11,7 @@ ghost use Rattle.premise.specs.Evaluation.{evaluated};
 use premise::{File, FileAfter, Order, OrderAfter};
 
 // The evaluation's four passes.
-#[derive(Drop)]
+#[derive(Clone, Copy)]
 pub enum Pass {
     SameDaySwitches,
     DropsOnSwitchDays,

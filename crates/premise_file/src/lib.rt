@@ -1,5 +1,7 @@
 // A premise's file: one without orders, its orders, which of them are open and how many of one retailer, and a new order on its stack of
 // eight.
+#![tactic(auto)]
+
 mod empty;
 mod open;
 mod orders;

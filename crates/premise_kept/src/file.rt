@@ -5,7 +5,7 @@ ghost use Rattle.premise_kept.specs.Test.{refused, file_test};
 use premise::File;
 
 // Whether a file is well kept, and if so how many of its orders are in each open status, as one number.
-#[derive(Drop)]
+#[derive(Clone, Copy)]
 pub struct FileTest {
     pub kept: bool,
     pub waiting: u64,

@@ -1,4 +1,6 @@
 // Notices on orders and agreements: made, written behind those that stand in the buffer, and an order's cancellation with its notices.
+#![tactic(auto)]
+
 mod cancelling;
 mod telling;
 mod writer;

@@ -1,5 +1,7 @@
 // The rows of the table of refusals that go by a file: those of a new order, those of a record that names one and that of an agreement; the
 // number of an answer.
+#![tactic(auto)]
+
 mod agreement_rows;
 mod first_in;
 mod named_rows;

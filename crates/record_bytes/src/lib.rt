@@ -1,5 +1,7 @@
 // The 24-byte layout of records and notices in code (document 01, "Records"): what the bytes of a record or a notice say, a notice written,
 // and numbers in bytes. What the bytes mean stands in `records`.
+#![tactic(auto)]
+
 mod fields;
 mod notice;
 mod numbers;

@@ -1,5 +1,6 @@
 // Records and notices. Here stand their types and numbers; what their bytes say stands in specs/, from document 01, "Records", with its
 // laws in proofs/. The code stands in `record_bytes`.
+#![tactic(auto)]
 
 // The first byte of each field.
 pub mod field_at;
@@ -27,7 +28,7 @@ pub const LAST_COUNTER: u64 = 4_294_967_295;
 pub const TDSP: u64 = 0;
 
 // A record's fields, as its bytes give them.
-#[derive(Drop)]
+#[derive(Clone, Copy)]
 pub struct Record {
     pub kind: u8,
     pub detail: u8,
@@ -39,7 +40,7 @@ pub struct Record {
 }
 
 // What the bytes of a record say.
-#[derive(Drop)]
+#[derive(Clone, Copy)]
 pub enum Reading {
     // They meet row 3.
     Malformed,
@@ -47,7 +48,7 @@ pub enum Reading {
 }
 
 // A notice. An addressee of 0 is the TDSP.
-#[derive(Drop)]
+#[derive(Clone, Copy)]
 pub struct Notice {
     pub code: u8,
     pub kind: u8,

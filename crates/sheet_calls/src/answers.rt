@@ -8,7 +8,7 @@ use book::Book;
 use sheet_rules::{BlockRow, SheetAnswer};
 
 // An answer, and how many rows are filled in with it: all or none.
-#[derive(Drop)]
+#[derive(Clone, Copy)]
 pub struct Judged {
     pub answer: SheetAnswer,
     pub filled: usize,

@@ -1,5 +1,7 @@
 // The block sheet in code: the rows of blocks are lent, and filled in place; the same by value. What a call promises stands in
 // `sheet_rules`.
+#![tactic(auto)]
+
 mod answers;
 mod counts;
 mod lent_rows;

@@ -5,7 +5,7 @@ use book::Book;
 use sheet_rules::{BlockRow, SheetAnswer};
 
 // What a call gives back: its answer, and the rows afterwards.
-#[derive(Drop)]
+#[derive(Clone, Copy)]
 pub struct SheetAfter {
     pub answer: SheetAnswer,
     pub rows: [BlockRow; 64],

@@ -1,6 +1,8 @@
 // Makes single record calls on books handed in as bytes, damaged ones too, and prints what comes back, so that the proved call can be
 // compared with the second program call by call. The layout of the bytes and of the lines stands at the top of the second program's
 // callcheck.rs (reference/stacking/src/bin).
+#![tactic(auto)]
+
 ghost use Rattle.std.specs.Prelude.{◌≤◌, length};
 
 use book::{Book, Reply};

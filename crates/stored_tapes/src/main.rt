@@ -1,5 +1,7 @@
 // Plays stored tapes, one after another: its arguments are pairs of files, a tape and its calendar (absent counts as empty). Before each
 // tape's text stands a line with the tape's file name. `tapes/store` writes its data/, args and stdout, the latter with the second program.
+#![tactic(auto)]
+
 ghost use Rattle.std.specs.Prelude.{◌≤◌, length};
 
 use tape_io::Got;

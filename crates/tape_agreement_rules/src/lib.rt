@@ -1,8 +1,9 @@
 // Two tapes held against each other, premise by premise: what comparing them says. Document 02, change 10. What it is to agree stands in
 // specs/, with its theorems; their proofs and the laws that the code cites in proofs/. The code stands in `tape_agreement`.
+#![tactic(auto)]
 
 // What comparing our tape with another says: yes, or no with a number.
-#[derive(Drop)]
+#[derive(Clone, Copy)]
 pub enum Agreement {
     // Yes: every premise has the same on both.
     Same,

@@ -1,4 +1,6 @@
 // The book that a tape leads to.
+#![tactic(auto)]
+
 ghost use Rattle.std.specs.Prelude.{◌≡◌, ◌≤◌, length};
 ghost use Rattle.book.specs.Book.{fresh_book};
 ghost use Rattle.book.specs.Calls.{notice_bytes};

@@ -1,5 +1,7 @@
 // The programs' reading and writing over C: files and standard input read, a tape played from its bytes and its text written; and the tape
 // program itself, whichever way its records are played.
+#![tactic(auto)]
+
 mod input;
 mod playing;
 mod program;

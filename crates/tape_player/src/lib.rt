@@ -1,4 +1,6 @@
 // The tape program's work: a tape is played in stretches, each into a buffer for the text. What a stretch is stands in `tape_output`.
+#![tactic(auto)]
+
 mod ending;
 mod player;
 mod stretch_text;

@@ -11,7 +11,7 @@ ghost use Rattle.tape_player.specs.Noted.{noted_text, noted_texts, Printable};
 use tape_reader::Reader;
 
 // A reader after some records, and where their text stops.
-#[derive(Drop)]
+#[derive(Clone, Copy)]
 pub struct Told {
     pub reader: Reader,
     pub stop: usize,

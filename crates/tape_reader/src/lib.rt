@@ -1,10 +1,12 @@
 // The tape reader: how many records of a tape were played, how many of them were accepted and how many refused. It is lent and changed
 // in place.
+#![tactic(auto)]
+
 ghost use Rattle.std.specs.Prelude.{◌≡◌};
 ghost use Rattle.tape_reader.specs.Counts.{counted, Within};
 
 // The reader: the place of the last record that was played, from 1, or 0 before the first.
-#[derive(Drop)]
+#[derive(Clone, Copy)]
 pub struct Reader {
     pub place: usize,
     pub accepted: usize,

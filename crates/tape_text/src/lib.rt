@@ -1,5 +1,7 @@
 // The lines of the tape program as bytes (document 01, "The tape program"): numbers in base ten, lines of numbers, the lines of a record
 // and of a notice, and those at the end, each written to a buffer behind what stands there.
+#![tactic(auto)]
+
 mod end_lines;
 mod number_lines;
 mod numbers;

@@ -1,6 +1,8 @@
 // The waiting orders' program: it plays a tape and prints what the question shows of the book, one line `q A B C D`: In Review, Permit
 // Pending, Scheduled, Cancel Pending. What it prints is proved up to the buffer (`waiting_in`); what can't be read or written is told on
 // standard error, as the tape program tells it.
+#![tactic(auto)]
+
 ghost use Rattle.std.specs.Prelude.{◌≤◌, length};
 ghost use Rattle.book.specs.Calls.{notice_bytes};
 ghost use Rattle.tape_text.specs.Numbers.{Puts};

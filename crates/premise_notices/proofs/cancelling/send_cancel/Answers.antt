@@ -1,0 +1,12 @@
+-- `send_cancel` meets its contract: what `send` writes is the notice that `notice_on` made.
+use mathlib.Core.Path.{subst}
+use mathlib.Core.List.{[], ◌∷◌}
+use Rattle.records.specs.declared.Notice.{Notice}
+use Rattle.premise.specs.Promises.{Writes}
+use Rattle.premise_notices.proofs.cancelling.send_cancel.Goals as goal
+
+pub returns : goal.returns
+returns c =
+    let a = c.args in
+    subst (λ (n : Notice). Writes a.standing a.buffer.now c.send.new.buffer c.send.result (n ∷ []))
+    c.notice_on-notice.ensures c.send.ensures

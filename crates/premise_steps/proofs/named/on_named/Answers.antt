@@ -7,8 +7,7 @@ use Rattle.premise_steps.proofs.named.on_named.Goals as goal
 
 pub on_order-requires : goal.on_order-requires
 on_order-requires c =
-    let both = (c.requires.on_file, (c.requires.r_value, sym c.find-found.ensures ∙ c.in-At.is)) in
-    record { on_file = both.0; r_value = both.1; file_value = both.2 }
+    record { on_file = c.requires.on_file; r_value = c.requires.r_value; file_value = sym c.find-found.ensures ∙ c.in-At.is }
 
 pub returns-in-Nothing : goal.returns-in-Nothing
 returns-in-Nothing c =

@@ -7,4 +7,4 @@ pub returns-in-Accepted : goal.returns-in-Accepted
 returns-in-Accepted c = accepts _ c.in-Accepted.is
 
 pub returns-in_default : goal.returns-in_default
-returns-in_default c = refuses _ (omega arith)
+returns-in_default c = refuses _ c.in_default.not-Accepted

@@ -28,7 +28,7 @@ judged_from (suc k) from [] = refl
 judged_from (suc k) from (x ∷ hs) =
     let e : from + suc k ≡ suc from + k = omega arith in
     let t = lt-ltb from (from + suc k) (omega arith) in
-    rw (t, e) (step (is_digit x) (judged (suc from + k) (suc from) hs) (all_of is_digit (take k hs)) (all_of is_unused (drop k hs))
+    ap₂ (λ (b : Bool) (n : ℕ). half_kept b x && judged n (suc from) hs) t e ∙ (step (is_digit x) (judged (suc from + k) (suc from) hs) (all_of is_digit (take k hs)) (all_of is_unused (drop k hs))
     (judged_from k (suc from) hs))
   where
     step : (a j p q : Bool) → j ≡ (p && q) → (a && j) ≡ ((a && p) && q)

@@ -27,7 +27,7 @@ returns-in-2-to-9 c =
     ∙ kind_held a.today a.count a.at a.there c.in-Says.r
     (needs_one c.in-Says.r
     (elim c.in-2-to-9-1.branch [
-      | then-kind-lt10 t ↦ inl (omega (arith, c.if-kind-lt1.false), omega arith)
+      | then-kind-lt10 t ↦ inl (omega arith, omega arith)
       | else-kind-lt10+else-kind-lt11+then-kind-lt13 t ↦ inr (omega arith, omega arith)
     ])))
 

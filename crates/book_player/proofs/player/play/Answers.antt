@@ -1,7 +1,7 @@
 use Prim.Native.Nat.{◌+◌, ◌*◌, ◌-◌, ◌≤◌, ◌<◌}
-use mathlib.Core.Path.{refl}
+use mathlib.Core.Path.{refl, sym, ◌∙◌}
 use native.Mathlib.Omega.{arith}
-use lib.ListN.{length, get_or}
+use lib.ListN.{length, get_or, take, drop}
 use Rattle.days.specs.Window.{most_width}
 use Rattle.records.specs.Layout.{record_length}
 use Rattle.book.specs.Book.{most_files}
@@ -12,82 +12,103 @@ use Rattle.book_player.proofs.Marking.{mark_none}
 use Rattle.book_player.proofs.MarkTurns.{mark_place, mark_tidy, mark_width, mark_window, mark_room, mark_moves, mark_more}
 use Rattle.book_player.proofs.MarkTurns.{mark_still}
 use Rattle.book_player.proofs.Opening.{open_more}
-use Rattle.book_player.proofs.Ways.{well_kept, held_asks, held_moves}
+use Rattle.book_player.specs.Tasks.{Known}
+use Rattle.book_player.proofs.Tasks.{task_known}
+use Rattle.book_player.proofs.Ways.{Standing, Made, made_as, well_kept, by_refusal, by_file, by_marks, by_opening, by_open_order, by_closing, held_place, close_place, held_asks, held_moves}
 use Rattle.book_player.proofs.Ways.{day_asks, opening, closed_tidy, closing}
-use Rattle.book_player.proofs.Playing.{playing_none}
+use Rattle.book_player.proofs.Playing.{playing_none, standing, plays_most, plays_all, plays_room}
 use Rattle.book_player.proofs.Playing.{sent_more, sent_few, playing_more}
-use Rattle.book_player.proofs.Seeking.{seek_none, seek_more}
+use Rattle.book_player.proofs.Seeking.{seek_none, seek_end, seek_more, seek_here}
 use Rattle.book_player.proofs.player.play.Goals as goal
-use Rattle.book_player.proofs.player.play.Goals.{Else-notices-sent-lt-NOTICE_BYTES, In-loop-freed, In-loop-place, In-loop-place-2}
+use Rattle.book_player.proofs.player.play.Goals.{in-Refused, in-OnFile, in-NextDay+else-loop-place-test, in-Opens+else-loop-place-2-test, in-Closes+then-any_open, in-Closes+else-any_open+else-loop-freed-test, else-loop-at-test, then-loop-at-test+then-wanted-there, After-premise_in-wanted, After-task_of-task, Joined-task, Else-notices-sent-lt-NOTICE_BYTES, In-loop-freed, In-loop-place, In-loop-place-2}
 
 pub loop-played-init : goal.loop-played-init
 loop-played-init c =
     let a = c.args in
     playing_none a.calendar.now a.tape.now a.b a.answers.now a.counts.now a.notices.now c.requires.book_kept c.requires.answers_in_bounds
 
--- PORT: by hand: began: the place `l` (At-loop) is passed on whole
--- -- where the function began
--- abbrev began : (l : tie.At-loop invariant-loop2 decreases-loop2 invariant-loop3 decreases-loop3 invariant-loop4 decreases-loop4 invariant-loop5 decreases-loop5 invariant-loop decreases-loop)
---     → tie.Start invariant-loop2 decreases-loop2 invariant-loop3 decreases-loop3 invariant-loop4 decreases-loop4 invariant-loop5 decreases-loop5 invariant-loop decreases-loop
--- began l = l.before.before.before.before.before.before
-
 -- a record is left and finds room
-room-left : (e : Else-notices-sent-lt-NOTICE_BYTES)
+room_left : (e : Else-notices-sent-lt-NOTICE_BYTES)
     → notice_bytes ≤ length e.loop-played.notices - record_length * e.loop-played.sent
-room-left e = omega (arith, e.if-notices-sent-lt-NOTICE_BYTES.false)
+room_left e = omega (arith, e.if-notices-sent-lt-NOTICE_BYTES.false)
 
--- PORT: by hand: stands: the place `e` (Else2) is passed on whole
--- stands : (p : tie.After-premise-in invariant-loop2 decreases-loop2 invariant-loop3 decreases-loop3 invariant-loop4 decreases-loop4 invariant-loop5 decreases-loop5 invariant-loop decreases-loop)
---     → (let l = p.before.before.before.before.before.before.before.loop in Standing l.c l.sent l.notices)
--- stands p =
---     let e = p.before.before.before.before in
---     let i = e.before.before in
---     standing i.before.loop.invariant i.loop-test.true e.before.if1.false (room-left e)
+-- the book is well kept, and the notices of any call find room
+stands : (p : After-premise_in-wanted) → Standing p.loop-played.c p.loop-played.sent p.loop-played.notices
+stands p =
+    standing p.loop-played.invariant p.loop-played-test.true p.if-tape-from.false (omega (arith, p.if-notices-sent-lt-NOTICE_BYTES.false))
+
+-- what is known of the record by what is to be done with it
+told : (k : After-task_of-task)
+    → Known (take (k.record_end-to.result - k.loop-played.from) (drop k.loop-played.from k.args.tape.now)) k.loop-played.c past
+    k.task_of-task.result
+told k =
+    let v = standing k.loop-played.invariant k.loop-played-test.true k.if-tape-from.false (omega (arith, k.if-notices-sent-lt-NOTICE_BYTES.false)) in
+    let tidy = (well_kept v).tidy in
+    task_known _ _ v.kept k.read_record-reading.ensures k.premise_in-wanted.ensures
+    (elim k.loop-at-test.branch [
+      | else-loop-at-test w ↦ seek_end tidy k.loop-at.invariant w.loop-at-test.false w.there-is
+      | then-loop-at-test+then-wanted-there w ↦ seek_here tidy k.loop-at.invariant w.loop-at-test.true w.if-wanted-there.true w.there-is
+    ])
+    k.task_of-task.ensures
+
+-- its call is made, by one of the six ways
+made : (x : Joined-task)
+    → Known (take (x.record_end-to.result - x.loop-played.from) (drop x.loop-played.from x.args.tape.now)) x.loop-played.c past
+    x.task_of-task.result
+    → Made x.args.calendar.now x.loop-played.c (take (x.record_end-to.result - x.loop-played.from) (drop x.loop-played.from x.args.tape.now))
+    x.loop-played.sent x.loop-played.notices
+    (record { answer = x.match-task.last; sent = x.match-task.sent; book = x.match-task.c; buffer = x.match-task.notices })
+made x known =
+    let v = standing x.loop-played.invariant x.loop-played-test.true x.if-tape-from.false (omega (arith, x.if-notices-sent-lt-NOTICE_BYTES.false)) in
+    elim x.match-task.branch [
+      | in-Refused w ↦ made_as (λ i. record { answer = w.last-is i; sent = w.sent-is i; book = w.c-is i; buffer = w.notices-is i })
+          (by_refusal v _ known w.in-Refused.is)
+      | in-OnFile w ↦ made_as (λ i. record { answer = w.last-is i; sent = w.sent-is i; book = w.c-is i; buffer = w.notices-is i })
+          (by_file v _ known w.in-OnFile.is _ w.on_file-p.result w.on_file-p.ensures w.moved-c.ensures)
+      | in-NextDay+else-loop-place-test w ↦ made_as (λ i. record { answer = w.last-is i; sent = w.sent-is i; book = w.c-is i; buffer = w.notices-is i })
+          (by_marks v _ known w.in-NextDay.is w.loop-place.invariant w.loop-place-test.false)
+      | in-Opens+else-loop-place-2-test w ↦ made_as (λ i. record { answer = w.last-is i; sent = w.sent-is i; book = w.c-is i; buffer = w.notices-is i })
+          (by_opening v _ known w.in-Opens.is w.new_file-carry.ensures w.loop-place-2.invariant w.loop-place-2-test.false)
+      | in-Closes+then-any_open w ↦ made_as (λ i. record { answer = w.last-is i; sent = w.sent-is i; book = w.c-is i; buffer = w.notices-is i })
+          (by_open_order v _ known w.in-Closes.is (sym w.any_open.ensures ∙ w.if-any_open.true))
+      | in-Closes+else-any_open+else-loop-freed-test w ↦ made_as (λ i. record { answer = w.last-is i; sent = w.sent-is i; book = w.c-is i; buffer = w.notices-is i })
+          (by_closing v _ known w.in-Closes.is (sym w.any_open.ensures ∙ w.if-any_open.false) w.loop-freed.invariant w.loop-freed-test.false
+          w.blank_file-none.ensures)
+    ]
 
 -- ---- its premise is looked for
 pub loop-at-init : goal.loop-at-init
 loop-at-init c = seek_none _ _
 
--- PORT: by hand: seeks-within: the place `i.before.before` (After-premise_in) is passed on whole
--- -- the file at the place reached stands in the book
--- seeks-within : (i : tie.In-loop2 invariant-loop2 decreases-loop2 invariant-loop3 decreases-loop3 invariant-loop4 decreases-loop4 invariant-loop5 decreases-loop5 invariant-loop decreases-loop)
---     → i.before.loop2.at < most_files
--- seeks-within i = omega (arith, i.loop2-test.true, (well_kept (stands i.before.before)).tidy.few)
+-- the file at the place reached stands in the book
+pub offset_bounds-c-at : goal.offset_bounds-c-at
+offset_bounds-c-at c =
+    let few : c.loop-at.at < most_files = omega (arith, c.loop-at-test.true, (well_kept (stands (goal.at.offset_bounds-c-at c).After-premise_in-wanted)).tidy.few) in
+    omega arith
+
+pub bounds-c-at : goal.bounds-c-at
+bounds-c-at c = omega (arith, c.loop-at-test.true, (well_kept (stands (goal.at.bounds-c-at c).After-premise_in-wanted)).tidy.few)
+
+pub overflow_add-at : goal.overflow_add-at
+overflow_add-at c = omega (arith, c.loop-at-test.true, (well_kept (stands (goal.at.overflow_add-at c).After-premise_in-wanted)).tidy.few)
 
 pub loop-at-preserved : goal.loop-at-preserved
 loop-at-preserved c =
     seek_more (well_kept (stands (goal.at.loop-at-preserved c).After-premise_in-wanted)).tidy c.loop-at.invariant c.loop-at-test.true c.if-wanted-there.false
 
--- PORT: by hand: cut: the place `k` (After-task_of) is passed on whole
--- -- where the record's end was found
--- abbrev cut : (k : tie.After-task-of invariant-loop2 decreases-loop2 invariant-loop3 decreases-loop3 invariant-loop4 decreases-loop4 invariant-loop5 decreases-loop5 invariant-loop decreases-loop)
---     → tie.After-record-end invariant-loop2 decreases-loop2 invariant-loop3 decreases-loop3 invariant-loop4 decreases-loop4 invariant-loop5 decreases-loop5 invariant-loop decreases-loop
--- cut k = k.before.before.before.before.before.before
+pub task_of-task-requires : goal.task_of-task-requires
+task_of-task-requires c = (well_kept (stands (goal.at.task_of-task-requires c).After-premise_in-wanted)).today
 
--- PORT: by hand: told: the place `p` (After-premise_in) is passed on whole
--- -- what is known of the record by what is to be done with it
--- told : (k : tie.After-task-of invariant-loop2 decreases-loop2 invariant-loop3 decreases-loop3 invariant-loop4 decreases-loop4 invariant-loop5 decreases-loop5 invariant-loop decreases-loop)
---     → (let m = cut k in
---     let l = m.before.before.before.before in
---     Known (take (m.record-end.result - l.loop.from) (drop l.loop.from (began l).args.tape.now)) l.loop.c past
---     k.task-of.result)
--- told k =
---     let s = k.before.before in
---     let p = s.before in
---     let v = stands p in
---     let tidy = (well_kept v).tidy in
---     task_known _ _ v.kept p.before.read-record.ensures p.premise-in.ensures
---     (⊎_elim (λ x. seek_end tidy s.loop2.invariant x.0.left x.1)
---     (λ x. seek_here tidy s.loop2.invariant x.0.taken x.1.taken x.2) k.before.loop2-test.branch)
---     k.task-of.ensures
+-- ---- its premise is held
+pub offset_bounds-c-at-in-OnFile : goal.offset_bounds-c-at-in-OnFile
+offset_bounds-c-at-in-OnFile c =
+    let g = goal.at.offset_bounds-c-at-in-OnFile c in
+    omega (arith, held_place (stands g.After-premise_in-wanted) _ (told g.After-task_of-task) c.in-OnFile.is)
 
--- PORT: by hand: held_at: the place `k.before.before.before` (After-premise_in) is passed on whole
--- -- ---- the record's premise is held
--- held_at : (d : tie.After-task2 invariant-loop2 decreases-loop2 invariant-loop3 decreases-loop3 invariant-loop4 decreases-loop4 invariant-loop5 decreases-loop5 invariant-loop decreases-loop)
---     → d.task2.given.0.0 < most_files
--- held_at d =
---     let k = d.before.before in
---     held_place (stands k.before.before.before) _ (told k) d.task2.given.1
+pub bounds-c-at-in-OnFile : goal.bounds-c-at-in-OnFile
+bounds-c-at-in-OnFile c =
+    let g = goal.at.bounds-c-at-in-OnFile c in
+    omega (arith, held_place (stands g.After-premise_in-wanted) _ (told g.After-task_of-task) c.in-OnFile.is)
 
 pub on_file-p-requires : goal.on_file-p-requires
 on_file-p-requires c =
@@ -96,8 +117,18 @@ on_file-p-requires c =
 
 pub moved-c-requires : goal.moved-c-requires
 moved-c-requires c =
-    held_moves (stands (goal.at.moved-c-requires c).After-premise_in-wanted) _ (told (goal.at.moved-c-requires c).After-task_of-task) c.in-OnFile.is (began (goal.at.moved-c-requires c).At-loop-played).args.calendar.now
+    held_moves (stands (goal.at.moved-c-requires c).After-premise_in-wanted) _ (told (goal.at.moved-c-requires c).After-task_of-task) c.in-OnFile.is c.args.calendar.now
     c.on_file-p.result c.on_file-p.ensures
+
+pub offset_bounds-c-at-in-OnFile-2 : goal.offset_bounds-c-at-in-OnFile-2
+offset_bounds-c-at-in-OnFile-2 c =
+    let g = goal.at.offset_bounds-c-at-in-OnFile-2 c in
+    omega (arith, held_place (stands g.After-premise_in-wanted) _ (told g.After-task_of-task) c.in-OnFile.is)
+
+pub bounds-c-at-in-OnFile-2 : goal.bounds-c-at-in-OnFile-2
+bounds-c-at-in-OnFile-2 c =
+    let g = goal.at.bounds-c-at-in-OnFile-2 c in
+    omega (arith, held_place (stands g.After-premise_in-wanted) _ (told g.After-task_of-task) c.in-OnFile.is)
 
 -- ---- it marks the next day
 pub loop-place-init : goal.loop-place-init
@@ -109,18 +140,23 @@ marks-within : (i : In-loop-place)
     → i.loop-place.place < most_files
 marks-within i = mark_place i.loop-place.invariant i.loop-place-test.true
 
--- PORT: by hand: storing: the place `c` (After-moved2) is passed on whole
--- -- where the file that is left is stored
--- abbrev storing : (c : tie.After-moved2 invariant-loop2 decreases-loop2 invariant-loop3 decreases-loop3 invariant-loop4 decreases-loop4 invariant-loop5 decreases-loop5 invariant-loop decreases-loop)
---     → tie.In-loop3 invariant-loop2 decreases-loop2 invariant-loop3 decreases-loop3 invariant-loop4 decreases-loop4 invariant-loop5 decreases-loop5 invariant-loop decreases-loop
--- storing c = c.before.before.before.before.before.before.before.before.before.before.before.before
-
 -- its window has one of the widths of which the last days are known
 marks-width : (k : In-loop-place)
     → (let l = k.loop-place in
     let width = (get_or l.c.files l.place past).window in
     (1 ≤ width) × (width ≤ most_width))
 marks-width k = mark_width k.loop-place.invariant k.loop-place-test.true
+
+pub overflow_sub-end : goal.overflow_sub-end
+overflow_sub-end c = omega (arith, (mark_width c.loop-place.invariant c.loop-place-test.true).0)
+
+pub bounds-ends-f : goal.bounds-ends-f
+bounds-ends-f c =
+    let width = mark_width c.loop-place.invariant c.loop-place-test.true in
+    omega (arith, width.0, width.1)
+
+pub mark_changes_file-requires : goal.mark_changes_file-requires
+mark_changes_file-requires c = mark_tidy c.loop-place.invariant c.loop-place-test.true
 
 pub mark-m-requires : goal.mark-m-requires
 mark-m-requires c =
@@ -156,17 +192,25 @@ opens-within i = omega (arith, i.loop-place-2-test.true, i.loop-place-2.invarian
 pub loop-place-2-preserved : goal.loop-place-2-preserved
 loop-place-2-preserved c = open_more c.loop-place-2.invariant c.loop-place-2-test.true
 
--- PORT: by hand: close_at: the place `k.before.before.before` (After-premise_in) is passed on whole
--- -- ---- it closes one
--- close_at : (d : tie.After-task5 invariant-loop2 decreases-loop2 invariant-loop3 decreases-loop3 invariant-loop4 decreases-loop4 invariant-loop5 decreases-loop5 invariant-loop decreases-loop)
---     → d.task5.given.0.0 < most_files
--- close_at d =
---     let k = d.before.before in
---     close_place (stands k.before.before.before) _ (told k) d.task5.given.1
+-- ---- it closes one
+pub offset_bounds-c-at-in-Closes : goal.offset_bounds-c-at-in-Closes
+offset_bounds-c-at-in-Closes c =
+    let g = goal.at.offset_bounds-c-at-in-Closes c in
+    omega (arith, close_place (stands g.After-premise_in-wanted) _ (told g.After-task_of-task) c.in-Closes.is)
+
+pub bounds-c-at-in-Closes : goal.bounds-c-at-in-Closes
+bounds-c-at-in-Closes c =
+    let g = goal.at.bounds-c-at-in-Closes c in
+    omega (arith, close_place (stands g.After-premise_in-wanted) _ (told g.After-task_of-task) c.in-Closes.is)
 
 pub any_open-requires : goal.any_open-requires
 any_open-requires c =
     closed_tidy (stands (goal.at.any_open-requires c).After-premise_in-wanted) _ (told (goal.at.any_open-requires c).After-task_of-task) c.in-Closes.is
+
+pub overflow_sub-left : goal.overflow_sub-left
+overflow_sub-left c =
+    let g = goal.at.overflow_sub-left c in
+    omega (arith, (closing (stands g.After-premise_in-wanted) _ (told g.After-task_of-task) c.in-Closes.is).within)
 
 pub loop-freed-init : goal.loop-freed-init
 loop-freed-init c =
@@ -180,73 +224,36 @@ closes-within i = omega (arith, i.loop-freed-test.true, i.loop-freed.invariant.t
 pub loop-freed-preserved : goal.loop-freed-preserved
 loop-freed-preserved c = close_more c.loop-freed.invariant c.loop-freed-test.true refl
 
--- PORT: by hand: MadeAt: the place `c.before` (After-task_of) is passed on whole
--- -- ---- its call is made, by one of the six ways
--- abbrev MadeAt : tie.At-match-branch invariant-loop2 decreases-loop2 invariant-loop3 decreases-loop3 invariant-loop4 decreases-loop4 invariant-loop5 decreases-loop5 invariant-loop decreases-loop → Type 0
--- MadeAt c =
---     let m = cut c.before in
---     let l = m.before.before.before.before in
---     let a = (began l).args in
---     Made a.calendar.now l.loop.c (take (m.record-end.result - l.loop.from) (drop l.loop.from a.tape.now))
---     l.loop.sent l.loop.notices
---     (record { answer = c.match.new; sent = c.match.sent; book = c.match.c; buffer = c.match.notices })
-
--- PORT: by hand: made: the place `k.before.before.before` (After-premise_in) is passed on whole
--- made : (c : tie.At-match-branch invariant-loop2 decreases-loop2 invariant-loop3 decreases-loop3 invariant-loop4 decreases-loop4 invariant-loop5 decreases-loop5 invariant-loop decreases-loop) → MadeAt c
--- made c =
---     let k = c.before in
---     let v = stands k.before.before.before in
---     ⊎_elim
---     (λ x. made_as (λ i. record { answer = x.6 i; sent = x.5 i; book = x.4 i; buffer = x.3 i })
---     (by_refusal v _ (told k) x.1.given.1))
---     (⊎_elim
---     (λ x. made_as (λ i. record { answer = x.14 i; sent = x.13 i; book = x.12 i; buffer = x.11 i })
---     (by_file v _ (told k) x.1.given.1 _ x.5.result x.5.ensures x.10.ensures))
---     (⊎_elim
---     (λ x. made_as (λ i. record { answer = x.10 i; sent = x.9 i; book = x.8 i; buffer = x.7 i })
---     (by_marks v _ (told k) x.1.given.1 x.5.inv x.6.left))
---     (⊎_elim
---     (λ x. made_as (λ i. record { answer = x.9 i; sent = x.8 i; book = x.7 i; buffer = x.6 i })
---     (by_opening v _ (told k) x.1.given.1 x.3.ensures x.4.inv x.5.left))
---     (⊎_elim
---     (λ x. made_as (λ i. record { answer = x.9 i; sent = x.8 i; book = x.7 i; buffer = x.6 i })
---     (by_open_order v _ (told k) x.1.given.1 (sym x.4.ensures ∙ x.5.taken)))
---     (λ x. made_as (λ i. record { answer = x.12 i; sent = x.11 i; book = x.10 i; buffer = x.9 i })
---     (by_closing v _ (told k) x.1.given.1 (sym x.4.ensures ∙ x.5.left) x.6.inv x.7.left
---     x.8.ensures))))))
---     c.match.branch
-
 -- ---- it is noted
 pub overflow_sub-counts : goal.overflow_sub-counts
 overflow_sub-counts c =
-    let m = cut (goal.at.overflow_sub-counts c).After-task_of-task in
-    let e = m.before in
-    let i = e.before.before in
+    let g = goal.at.overflow_sub-counts c in
     omega (
       arith,
-      sent_more i.before.loop.inv i.loop-test.taken e.before.if1.left (room-left e) m.record-end.result (made (goal.at.overflow_sub-counts c).Joined-task),
+      sent_more c.loop-played.invariant c.loop-played-test.true c.if-tape-from.false (room_left g.Else-notices-sent-lt-NOTICE_BYTES) c.record_end-to.result
+          (made g.Joined-task (told g.After-task_of-task)),
     )
 
 pub overflow_cast-counts : goal.overflow_cast-counts
 overflow_cast-counts c =
-    let m = cut (goal.at.overflow_cast-counts c).After-task_of-task in
-    let e = m.before in
-    let i = e.before.before in
+    let g = goal.at.overflow_cast-counts c in
     omega (
       arith,
-      sent_few i.before.loop.inv i.loop-test.taken e.before.if1.left (room-left e) m.record-end.result (made (goal.at.overflow_cast-counts c).Joined-task),
+      sent_few c.loop-played.invariant c.loop-played-test.true c.if-tape-from.false (room_left g.Else-notices-sent-lt-NOTICE_BYTES) c.record_end-to.result
+          (made g.Joined-task (told g.After-task_of-task)),
     )
-
--- PORT: by hand: reached: the place `c` (After-row_known) is passed on whole
--- -- where the record was reached
--- abbrev reached : (c : tie.After-row-known invariant-loop2 decreases-loop2 invariant-loop3 decreases-loop3 invariant-loop4 decreases-loop4 invariant-loop5 decreases-loop5 invariant-loop decreases-loop)
---     → tie.In-loop invariant-loop2 decreases-loop2 invariant-loop3 decreases-loop3 invariant-loop4 decreases-loop4 invariant-loop5 decreases-loop5 invariant-loop decreases-loop
--- reached c = (cut c.before.before.before).before.before.before
 
 pub loop-played-preserved : goal.loop-played-preserved
 loop-played-preserved c =
-    let m = cut (goal.at.loop-played-preserved c).After-task_of-task in
-    let e = m.before in
-    let i = e.before.before in
-    playing_more i.before.loop.inv i.loop-test.taken e.before.if1.left (room-left e) m.record-end.result (made (goal.at.loop-played-preserved c).Joined-task)
-    m.record-end.ensures c.number_of.ensures refl
+    let g = goal.at.loop-played-preserved c in
+    playing_more c.loop-played.invariant c.loop-played-test.true c.if-tape-from.false (room_left g.Else-notices-sent-lt-NOTICE_BYTES) c.record_end-to.result
+    (made g.Joined-task (told g.After-task_of-task)) c.record_end-to.ensures c.number_of.ensures refl
+
+pub returns-then-tape-from : goal.returns-then-tape-from
+returns-then-tape-from c = plays_all c.loop-played.invariant c.if-tape-from.true
+
+pub returns-then-notices-sent-lt-NOTICE_BYTES : goal.returns-then-notices-sent-lt-NOTICE_BYTES
+returns-then-notices-sent-lt-NOTICE_BYTES c = plays_room c.loop-played.invariant (omega (arith, c.if-notices-sent-lt-NOTICE_BYTES.true))
+
+pub returns-after-loop-played : goal.returns-after-loop-played
+returns-after-loop-played c = plays_most c.loop-played.invariant c.loop-played-test.false

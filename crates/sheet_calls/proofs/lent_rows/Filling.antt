@@ -1,5 +1,5 @@
 -- The rows of a sheet, judged one after the other and then filled in one after the other. Assumes nothing.
-use Prim.Native.Nat.{ℕ, zero, suc, ◌≤◌, ◌<◌}
+use Prim.Native.Nat.{ℕ, zero, suc, ◌+◌, ◌≤◌, ◌<◌}
 use mathlib.Core.Path.{◌≡◌, refl, sym, ap, ◌∙◌}
 use mathlib.Core.List.{List, [], ◌∷◌, map}
 use mathlib.Core.Bool.{Bool, true, false, ◌&&◌}
@@ -7,7 +7,8 @@ use native.Mathlib.Nat.{le_refl}
 use native.Mathlib.Numerals.{add-one}
 use native.Mathlib.Omega.{arith}
 use lib.ListN.{length, take, get_or, set, length-append, length-take, length-drop, length-map, get_or-map}
-use lib.Seq.{take_all}
+use lib.Seq.{take_all, set-set}
+use Rattle.std.proofs.lemmas.List.{get_or-set_same}
 use Rattle.lists.specs.Search.{all_of}
 use Rattle.lists.proofs.Over.{over, over_start, over_end, over_at, over_set}
 use Rattle.lists.proofs.Find.{drop-none}
@@ -91,6 +92,25 @@ module _ (b : Book) (rows : List BlockRow) (i : ℕ) (h : i < length rows) where
       ap (λ (u : Tally). set (filled_to b i rows) i (with_tally (get_or (filled_to b i rows) i past) u)) e
       ∙ ap (λ (r : BlockRow). set (filled_to b i rows) i (counted b r)) stays
       ∙ counted_next
+
+  -- its two counts are stored one after the other
+  pub stored_twice : (reached : List BlockRow) → reached ≡ filled_to b i rows → (t : Tally)
+      → t ≡ tally_of b (get_or reached i past).first (get_or reached i past).last
+      → (let old = get_or reached i past in
+      let once = set reached i (record { block = old.block; first = old.first; last = old.last; files = t.files; dark = old.dark }) in
+      let again = get_or once i past in
+      set once i (record { block = again.block; first = again.first; last = again.last; files = again.files; dark = t.dark }))
+      ≡ filled_to b (i + 1) rows
+  stored_twice reached e t tallied =
+      let there : i < length reached = omega (arith, h, ap length e, filled_length b i rows) in
+      let old = get_or reached i past in
+      let a : BlockRow = record { block = old.block; first = old.first; last = old.last; files = t.files; dark = old.dark } in
+      ap (λ (x : BlockRow). set (set reached i a) i (record { block = x.block; first = x.first; last = x.last; files = x.files; dark = t.dark }))
+      (get_or-set_same reached i a past there)
+      ∙ set-set reached i a (with_tally old t)
+      ∙ ap (λ (l : List BlockRow). set l i (with_tally (get_or l i past) t)) e
+      ∙ filled_next t (tallied ∙ ap (λ (l : List BlockRow). tally_of b (get_or l i past).first (get_or l i past).last) e)
+      ∙ ap (λ (n : ℕ). filled_to b n rows) (sym (add-one i))
 
 -- ---- the end
 pub filled_most : (kept sound : Bool) (n : ℕ) → (judged kept sound n).filled ≤ n

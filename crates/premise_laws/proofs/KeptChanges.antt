@@ -9,7 +9,7 @@ use lib.Dec.{eqb, leb}
 use borrow.Author.Tests.{leb-true, le-leb}
 use Rattle.lists.proofs.TestLaws.{by_test}
 use Rattle.premise.specs.declared.Order.{Order}
-use Rattle.premise.specs.Orders.{in_review, permit_pending, scheduled, cancel_pending, cancelled, unexecutable, has_status, business_days}
+use Rattle.premise.specs.Orders.{in_review, permit_pending, cancel_pending, cancelled, unexecutable, has_status, business_days}
 use Rattle.premise.specs.Orders.{is_open, calendar_days, with_waited, as_cancelled}
 use Rattle.premise.specs.Passes.{Change}
 use Rattle.premise.specs.Clock.{most_waited, long_review, short_review, most_pending, grown, reviewed, permit_awaited, cancel_awaited, ticked}

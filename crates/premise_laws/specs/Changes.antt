@@ -2,7 +2,7 @@
 -- leaves alone; proofs/MarkChanges.antt proves the law.
 use Rattle.std.specs.Prelude.{ℕ, suc, Bool, true, false, cond, ◌&&◌, ◌||◌, eqb, leb, List, [], ◌∷◌, ◌≡◌}
 use Rattle.premise.specs.declared.Order.{Order}
-use Rattle.premise.specs.Orders.{in_review, permit_pending, cancel_pending, has_status, scheduled, held}
+use Rattle.premise.specs.Orders.{in_review, permit_pending, cancel_pending, has_status, held}
 use Rattle.premise.specs.Clock.{most_waited, review_ends, ticked}
 use Rattle.days.specs.Window.{up_to, LastInWindow}
 use Rattle.premise.specs.Evaluation.{gives_way, is_displaced, is_overtaken, is_due}

@@ -34,9 +34,8 @@ use Rattle.book.proofs.Files.{found_each}
 use Rattle.book.proofs.SameFiles.{with_each}
 use Rattle.book.proofs.Kept.{holds_its_files, book_kept_by_either}
 use Rattle.book.proofs.RowsInOrder.{call_by_either}
-use Rattle.same_outcomes.specs.Outcomes.{Outcome, ToMake, outcome_of, outcome_by, outcomes_by, asked}
-use Rattle.same_outcomes.specs.EitherWidth.{NineDigits, NoLongRetailer, EitherWidth, MadeAsNarrow, MadeWithEither}
-use Rattle.same_outcomes.proofs.Outcomes.{played_is_outcomes}
+use Rattle.same_outcomes.specs.Outcomes.{Outcome, ToMake, outcome_of, outcome_by, outcomes_by}
+use Rattle.same_outcomes.specs.EitherWidth.{NineDigits, NoLongRetailer, EitherWidth}
 
 -- no retailer above the narrow limit, in files and in notices
 abbrev last : ℕ
@@ -146,14 +145,3 @@ module _ (calendar : List ℕ) where
 pub either_width : EitherWidth
 either_width calendar start cs n =
     outcomes_same calendar (fresh_book start) cs (subst NoneAbove (sym (holds_its_files (min start last_day) [])) tt) n
-
--- ---- of calls that were made
-pub made_as_narrow : MadeAsNarrow
-made_as_narrow calendar start ms p n =
-    played_is_outcomes wide calendar (fresh_book start) ms p ∙ sym (either_width calendar start (asked ms) n)
-
-pub made_with_either : MadeWithEither
-made_with_either calendar start old new p q same n =
-    played_is_outcomes narrow calendar (fresh_book start) old p
-    ∙ ap (outcomes_by narrow kept_width calendar (fresh_book start)) same
-    ∙ sym (made_as_narrow calendar start new q n)

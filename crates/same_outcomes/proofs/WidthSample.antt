@@ -1,12 +1,9 @@
 -- The sample of either width comes out as it must: the theorem speaks of its first list, and could not of the second. Assumes nothing.
-use Prim.Native.Nat.{ℕ}
-use mathlib.Core.Path.{◌≡◌, refl, sym, ap, ◌∙◌}
-use mathlib.Core.List.{List}
+use mathlib.Core.Path.{refl}
 use native.Mathlib.Omega.{arith}
-use lib.ListN.{get_or, replicate}
 use Rattle.days.specs.Days.{kind_of_day, is_business_day, switch_date}
 use Rattle.days.specs.Window.{business_days, in_window}
-use Rattle.records.specs.Layout.{wide, narrow, field_of}
+use Rattle.records.specs.Layout.{field_of}
 use Rattle.records.specs.Records.{well_formed_by, reading_by}
 use Rattle.records.specs.Notices.{encode_by}
 use Rattle.premise.specs.Orders.{places}
@@ -26,8 +23,7 @@ use Rattle.demands.specs.Sample.{lent}
 use Rattle.same_outcomes.specs.WidthSample.{asking, create, move_in, redated, scheduled, established, short_mark}
 use Rattle.same_outcomes.specs.WidthSample.{mark, too_long, retire_of5}
 use Rattle.same_outcomes.specs.WidthSample.{nine_digits, long_switch, wide_counter, retire_of_rest, more_digits, outcomes, answers, told}
-use Rattle.same_outcomes.specs.WidthSample.{book_with, marked, told_of_nine, told_of_more, Comes, WidthTells, RestTells}
-use Rattle.same_outcomes.proofs.EitherWidth.{either_width}
+use Rattle.same_outcomes.specs.WidthSample.{book_with, marked, told_of_nine, told_of_more, Comes}
 
 pub comes : Comes
 unfolding reviewed permit_awaited cancel_awaited ticked contends switch_of_day gives_way same_day_switch is_displaced drop_on_switch_day is_overtaken
@@ -77,19 +73,3 @@ comes =
       book_kept_lem = refl;
       both_kept = refl;
     }
-
--- the theorem's premise is met by the first list
-pub same : outcomes narrow nine_digits ≡ outcomes wide nine_digits
-unfolding outcomes
-same = either_width (replicate 20 0) 10 nine_digits comes.nine
-
--- with the others a create gets 3 by the narrow rules and 0 by the wide ones
-pub width_tells : WidthTells
-width_tells e =
-    let first : ◌≡◌ {A = ℕ} 3 0 = ap (λ (l : List ℕ). get_or l 0 0) (sym comes.ten_refused ∙ ap answers e ∙ comes.ten_taken) in
-    omega (arith, first)
-
-pub rest_tells : RestTells
-rest_tells e =
-    let first : ◌≡◌ {A = ℕ} 3 0 = ap (λ (l : List ℕ). get_or l 0 0) (sym comes.rest_refused ∙ ap answers e ∙ comes.rest_taken) in
-    omega (arith, first)

@@ -36,9 +36,8 @@ use Rattle.book.specs.Calls.{notice_bytes, call_rows, marked_files, marked_book,
 use Rattle.book.proofs.Files.{found_each}
 use Rattle.book.proofs.SameFiles.{with_each}
 use Rattle.book.proofs.Kept.{holds_its_files}
-use Rattle.same_outcomes.specs.Outcomes.{Outcome, ToMake, outcome_of, asked}
-use Rattle.same_outcomes.specs.WindowOfTwo.{outcome_with, outcomes_with, NoDetail, NoCreateHasDetail, WindowOfTwo, MadeAsOfTwo}
-use Rattle.same_outcomes.proofs.Outcomes.{played_is_outcomes}
+use Rattle.same_outcomes.specs.Outcomes.{Outcome, ToMake, outcome_of}
+use Rattle.same_outcomes.specs.WindowOfTwo.{outcome_with, outcomes_with, NoDetail, NoCreateHasDetail, WindowOfTwo}
 
 -- every file has a window of 2
 abbrev AllTwo : List File → Type 0
@@ -145,7 +144,3 @@ module _ (calendar : List ℕ) where
 
 pub window_of_two : WindowOfTwo
 window_of_two calendar start cs n = outcomes_same calendar (fresh_book start) cs (rw (holds_its_files (min start last_day) []) tt) n
-
--- ---- of calls that were made
-pub made_as_of_two : MadeAsOfTwo
-made_as_of_two calendar start ms p n = played_is_outcomes wide calendar (fresh_book start) ms p ∙ window_of_two calendar start (asked ms) n

@@ -1,3 +1,4 @@
+pub mod AsManyAsFindRoom
 pub mod NothingPlayed
 pub mod SingleCalls
 pub mod Stretches

@@ -1,6 +1,4 @@
 -- `esi_directory::search::find` meets its contract: the key of the text's digits is looked for, and the P of a sound directory is never 0.
--- Assumes
--- nothing.
 use mathlib.Core.Path.{sym, ap, ◌∙◌}
 use native.Mathlib.Omega.{arith}
 use Rattle.records.proofs.Fields.{bytes_each}

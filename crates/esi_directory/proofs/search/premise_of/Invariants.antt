@@ -1,6 +1,5 @@
 -- `esi_directory::search::premise_of` meets its contract. The loop's invariant: the search of the records left gives what the search of all
--- gives.
--- The measure is the bytes left.
+-- gives. The measure is the bytes left.
 use Prim.Native.Nat.{◌-◌, ◌≤◌}
 use mathlib.Core.Path.{◌≡◌}
 use lib.ListN.{length, drop}

@@ -1,6 +1,5 @@
 -- `esi_directory::soundness::stands_from` meets its contract. The loop's invariant: the search of the records left finds what the search of
--- all
--- finds. The measure is the bytes left.
+-- all finds. The measure is the bytes left.
 use Prim.Native.Nat.{◌-◌, ◌≤◌}
 use mathlib.Core.Path.{◌≡◌}
 use lib.ListN.{length, drop}

@@ -1,6 +1,5 @@
 -- `esi_directory::texts::packed_text` meets its contract. The loop's invariant: the first bytes are those of the packed digits, the others
--- zeros.
--- The measure is the bytes left.
+-- zeros. The measure is the bytes left.
 use Prim.Native.Nat.{◌-◌, ◌≤◌}
 use mathlib.Core.Path.{◌≡◌}
 use Rattle.lists.proofs.Over.{over}

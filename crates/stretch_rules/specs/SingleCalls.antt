@@ -1,6 +1,6 @@
 -- Document 02, change 5, as a theorem over record calls that were made: "Book, answers and notices equal those of the single calls, refused
--- records included." proofs/SingleCalls.antt proves it (`stretch_is_single_calls`,
--- `single_calls_can_be_made`, `as_many_as_find_room`).
+-- records included." proofs/SingleCalls.antt proves it (`stretch_is_single_calls`, `single_calls_can_be_made`), and proofs/AsManyAsFindRoom.antt
+-- how many are played (`as_many_as_find_room`).
 use Rattle.std.specs.Prelude.{ℕ, ◌*◌, ◌≤◌, ◌<◌, ◌≡◌, ◌⊎◌, List, [], ◌∷◌, ◌++◌, length, take, drop}
 use Rattle.records.specs.Layout.{record_length}
 use Rattle.book.specs.declared.Book.{Book}

@@ -28,7 +28,7 @@ const LONGEST_ANSWERS: usize = 4_096;
 const LONGEST_NOTICES: usize = 131_072;
 
 // The lines of both buffers: the answers and the notices, and the bytes behind them that were written.
-fn say_buffers(
+fn say_buffers(rt: &impl Print, 
     answers: &[u8],
     played: usize,
     notices: &[u8],
@@ -40,19 +40,19 @@ fn say_buffers(
     requires in_bounds { 256 ≤ length text.old }
     ensures { result ≤ length text.new }
 {
-    let mut at = call_bytes::say_answers(answers, played, start, text);
-    at = call_bytes::say_notices(notices, sent, at, text);
-    at = call_bytes::say_changed(b'x', notices, sent, records::RECORD_LENGTH, at, text);
-    call_bytes::say_changed(b'y', answers, played, 1, at, text)
+    let mut at = call_bytes::say_answers(rt, answers, played, start, text);
+    at = call_bytes::say_notices(rt, notices, sent, at, text);
+    at = call_bytes::say_changed(rt, b'x', notices, sent, records::RECORD_LENGTH, at, text);
+    call_bytes::say_changed(rt, b'y', answers, played, 1, at, text)
 }
 
 // Prints the lines of a call: what it returned, and what stands in the buffers.
-fn print(place: u64, replies: Replies, answers: &[u8], notices: &[u8], text: &mut [u8])
+fn print(rt: &impl Print, place: u64, replies: Replies, answers: &[u8], notices: &[u8], text: &mut [u8])
     requires { 256 ≤ length text.old }
 {
     let answer = replies.answer;
     let number = stretch_calls::number_of(answer);
-    let mut at = call_bytes::say(
+    let mut at = call_bytes::say(rt, 
         b'c',
         &[
             place,
@@ -63,14 +63,14 @@ fn print(place: u64, replies: Replies, answers: &[u8], notices: &[u8], text: &mu
         0,
         text,
     );
-    at = say_buffers(answers, replies.played, notices, replies.sent, at, text);
+    at = say_buffers(rt, answers, replies.played, notices, replies.sent, at, text);
     let c = replies.book;
-    at = call_bytes::say_book(c, at, text);
-    call_bytes::write_out(at, text);
+    at = call_bytes::say_book(rt, c, at, text);
+    call_bytes::write_out(rt, at, text);
 }
 
 // Makes a call and prints its lines.
-fn make(
+fn make(rt: &impl Print, 
     place: u64,
     b: Book,
     calendar: &[u8],
@@ -84,11 +84,11 @@ fn make(
     call_bytes::fill(answers);
     call_bytes::fill(notices);
     let replies = stretch_calls::record_calls(calendar, b, tape, answers, notices);
-    print(place, replies, answers, notices, text);
+    print(rt, place, replies, answers, notices, text);
 }
 
 // Reads the rest of a call on a book, makes it and prints its lines; whether another may follow.
-fn play_on(
+fn play_on(rt: &HostRuntime, 
     place: u64,
     b: Book,
     calendar: &mut [u8],
@@ -99,23 +99,23 @@ fn play_on(
 ) -> bool
     requires { 256 ≤ length text.old }
 {
-    let days = take_part(&NAME, calendar);
+    let days = take_part(rt, &NAME, calendar);
     if calendar.len() < days {
         return false;
     }
-    let length = take_part(&NAME, tape);
+    let length = take_part(rt, &NAME, tape);
     if tape.len() < length {
         return false;
     }
-    let places = take_room(&NAME, answers.len());
+    let places = take_room(rt, &NAME, answers.len());
     if answers.len() < places {
         return false;
     }
-    let room = take_room(&NAME, notices.len());
+    let room = take_room(rt, &NAME, notices.len());
     if notices.len() < room {
         return false;
     }
-    make(
+    make(rt, 
         place,
         b,
         &calendar[0..days],
@@ -128,7 +128,7 @@ fn play_on(
 }
 
 // Reads one call to buffers, makes it and prints its lines; whether another may follow.
-fn play_by(
+fn play_by(rt: &HostRuntime, 
     place: u64,
     book: &mut [u8],
     calendar: &mut [u8],
@@ -139,23 +139,23 @@ fn play_by(
 ) -> bool
     requires { 256 ≤ length text.old }
 {
-    let taken = call_bytes::take_book(&NAME, book);
+    let taken = call_bytes::take_book(rt, &NAME, book);
     if !taken.came {
         return false;
     }
     let b = taken.book;
-    play_on(place, b, calendar, tape, answers, notices, text)
+    play_on(rt, place, b, calendar, tape, answers, notices, text)
 }
 
 // Plays one call; whether another may follow.
-fn play_one(place: u64) -> bool {
+fn play_one(rt: &HostRuntime, place: u64) -> bool {
     let mut book = [0u8; call_bytes::BOOK_BYTES];
     let mut calendar = [0u8; LONGEST_CALENDAR];
     let mut tape = [0u8; LONGEST_STRETCH];
     let mut answers = [0u8; LONGEST_ANSWERS];
     let mut notices = [0u8; LONGEST_NOTICES];
     let mut text = [0u8; call_bytes::TEXT_BYTES];
-    play_by(
+    play_by(rt, 
         place,
         &mut book,
         &mut calendar,
@@ -167,9 +167,9 @@ fn play_one(place: u64) -> bool {
 }
 
 // Plays calls to the end of the input.
-fn main() {
+fn main(rt: HostRuntime) {
     let mut place: u64 = 1;
-    while place < u64::MAX && play_one(place) {
+    while place < u64::MAX && play_one(&rt, place) {
         place += 1;
     }
 }

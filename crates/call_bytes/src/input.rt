@@ -13,46 +13,46 @@ pub struct BookTaken {
 }
 
 // Says on standard error what is wrong with the input.
-fn complain(program: &[u8], what: &[u8]) {
-    io::write_all(libc::STDERR_FILENO, program);
-    io::write_all(libc::STDERR_FILENO, b": ");
-    io::write_all(libc::STDERR_FILENO, what);
-    io::write_all(
-        libc::STDERR_FILENO,
+fn complain(rt: &HostRuntime, program: &[u8], what: &[u8]) {
+    tape_io::say(rt, program);
+    tape_io::say(rt, b": ");
+    tape_io::say(rt, what);
+    tape_io::say(
+        rt,
         b"; give whole calls, as callcheck --make writes single ones and blockcheck --make those of many records\n",
     );
 }
 
 // Reads so many bytes to the start of a buffer; whether they came. (`0..n`, not `..n`: the prover finds its length by itself.)
-fn take(program: &[u8], n: usize, buffer: &mut [u8]) -> bool {
+fn take(rt: &HostRuntime, program: &[u8], n: usize, buffer: &mut [u8]) -> bool {
     if buffer.len() < n {
-        complain(program, b"a length is above what is taken");
+        complain(rt, program, b"a length is above what is taken");
         return false;
     }
-    let got = tape_io::read_up_to(libc::STDIN_FILENO, &mut buffer[0..n]);
-    if got.failed || got.count < n {
-        complain(program, b"the calls break off or can't be read");
+    let got = tape_io::read_up_to(&mut rt.stdin(), &mut buffer[0..n]);
+    if got.failed.is_some() || got.count < n {
+        complain(rt, program, b"the calls break off or can't be read");
         return false;
     }
     true
 }
 
 // Reads a length of four bytes, or none where they did not come.
-fn take_length(program: &[u8]) -> usize {
+fn take_length(rt: &HostRuntime, program: &[u8]) -> usize {
     let mut four = [0u8; 4];
-    if !take(program, 4, &mut four) {
+    if !take(rt, program, 4, &mut four) {
         return NO_LENGTH;
     }
     record_bytes::four(&four, 0) as usize
 }
 
 // Reads a length and so many bytes to the start of a buffer; the length, or none where they did not come.
-pub fn take_part(program: &[u8], buffer: &mut [u8]) -> usize {
-    let n = take_length(program);
+pub fn take_part(rt: &HostRuntime, program: &[u8], buffer: &mut [u8]) -> usize {
+    let n = take_length(rt, program);
     if n == NO_LENGTH {
         return NO_LENGTH;
     }
-    if take(program, n, buffer) {
+    if take(rt, program, n, buffer) {
         n
     } else {
         NO_LENGTH
@@ -60,13 +60,13 @@ pub fn take_part(program: &[u8], buffer: &mut [u8]) -> usize {
 }
 
 // Reads the length of a buffer, if it is one that is taken; none where it did not come or is longer.
-pub fn take_room(program: &[u8], longest: usize) -> usize {
-    let room = take_length(program);
+pub fn take_room(rt: &HostRuntime, program: &[u8], longest: usize) -> usize {
+    let room = take_length(rt, program);
     if room == NO_LENGTH {
         return NO_LENGTH;
     }
     if longest < room {
-        complain(program, b"a buffer is longer than what is taken");
+        complain(rt, program, b"a buffer is longer than what is taken");
         return NO_LENGTH;
     }
     room
@@ -82,17 +82,17 @@ fn no_book() -> BookTaken {
 }
 
 // Reads a book, with which a call begins; at the end of the input none comes, and that is no error.
-pub fn take_book(program: &[u8], bytes: &mut [u8]) -> BookTaken {
-    let got = tape_io::read_up_to(libc::STDIN_FILENO, bytes);
-    if got.failed {
-        complain(program, b"standard input can't be read");
+pub fn take_book(rt: &HostRuntime, program: &[u8], bytes: &mut [u8]) -> BookTaken {
+    let got = tape_io::read_up_to(&mut rt.stdin(), bytes);
+    if got.failed.is_some() {
+        complain(rt, program, b"standard input can't be read");
         return no_book();
     }
     if got.count == 0 {
         return no_book();
     }
     if got.count < BOOK_BYTES {
-        complain(program, b"the calls break off");
+        complain(rt, program, b"the calls break off");
         return no_book();
     }
     let b = crate::book_bytes::book_from(bytes);

@@ -14,45 +14,45 @@ pub const TEXT_BYTES: usize = 16_384;
 const LINE_BYTES: usize = 256;
 
 // Writes out the lines that stand in the text. (`0..at`, not `..at`: the prover finds its length by itself.)
-pub fn write_out(at: usize, text: &[u8])
+pub fn write_out(rt: &impl Print, at: usize, text: &[u8])
     requires { at ≤ length text.now }
 {
-    io::write_all(libc::STDOUT_FILENO, &text[0..at]);
+    let _ = rt.write_all(&text[0..at]);
 }
 
 // Where the next line starts: behind those that stand in the text or, where it may not fit there, at the front, once they are written out.
-fn next_line(at: usize, text: &[u8]) -> usize
+fn next_line(rt: &impl Print, at: usize, text: &[u8]) -> usize
     requires at_in_bounds { at ≤ length text.now }
     requires in_bounds { 256 ≤ length text.now }
     ensures { result + 256 ≤ length text.now }
 {
     if text.len() - at < LINE_BYTES {
-        write_out(at, text);
+        write_out(rt, at, text);
         return 0;
     }
     at
 }
 
 // A line: a letter and at most 12 numbers.
-pub fn say(letter: u8, numbers: &[u64], at: usize, text: &mut [u8]) -> usize
+pub fn say(rt: &impl Print, letter: u8, numbers: &[u64], at: usize, text: &mut [u8]) -> usize
     requires numbers_len_bound { length numbers.now ≤ 12 }
     requires at_in_bounds { at ≤ length text.old }
     requires in_bounds { 256 ≤ length text.old }
     ensures { result ≤ length text.new }
 {
-    let start = next_line(at, text);
+    let start = next_line(rt, at, text);
     tape_text::put_lettered(letter, numbers, start, text)
 }
 
 // A notice's line, read from the buffer.
-fn say_notice(buffer: &[u8], from: usize, at: usize, text: &mut [u8]) -> usize
+fn say_notice(rt: &impl Print, buffer: &[u8], from: usize, at: usize, text: &mut [u8]) -> usize
     requires record_length_in_bounds { from + record_length ≤ length buffer.now }
     requires at_in_bounds { at ≤ length text.old }
     requires in_bounds { 256 ≤ length text.old }
     ensures { result ≤ length text.new }
 {
     let notice = record_bytes::read_notice(&buffer[from..]);
-    say(
+    say(rt, 
         b'n',
         &[
             notice.code as u64,
@@ -68,7 +68,7 @@ fn say_notice(buffer: &[u8], from: usize, at: usize, text: &mut [u8]) -> usize
 }
 
 // The lines of the first n notices of a buffer; fewer, where it does not hold so many.
-pub fn say_notices(buffer: &[u8], n: usize, at: usize, text: &mut [u8]) -> usize
+pub fn say_notices(rt: &impl Print, buffer: &[u8], n: usize, at: usize, text: &mut [u8]) -> usize
     requires at_in_bounds { at ≤ length text.old }
     requires in_bounds { 256 ≤ length text.old }
     ensures { result ≤ length text.new }
@@ -80,7 +80,7 @@ pub fn say_notices(buffer: &[u8], n: usize, at: usize, text: &mut [u8]) -> usize
         if buffer.len() - from < records::RECORD_LENGTH {
             return stop;
         }
-        stop = say_notice(buffer, from, stop, text);
+        stop = say_notice(rt, buffer, from, stop, text);
         from += records::RECORD_LENGTH;
         i += 1;
     }
@@ -88,7 +88,7 @@ pub fn say_notices(buffer: &[u8], n: usize, at: usize, text: &mut [u8]) -> usize
 }
 
 // A line for each of the first n answers; fewer, where the buffer does not hold so many.
-pub fn say_answers(answers: &[u8], n: usize, at: usize, text: &mut [u8]) -> usize
+pub fn say_answers(rt: &impl Print, answers: &[u8], n: usize, at: usize, text: &mut [u8]) -> usize
     requires at_in_bounds { at ≤ length text.old }
     requires in_bounds { 256 ≤ length text.old }
     ensures { result ≤ length text.new }
@@ -99,23 +99,23 @@ pub fn say_answers(answers: &[u8], n: usize, at: usize, text: &mut [u8]) -> usiz
         if answers.len() <= i {
             return stop;
         }
-        stop = say_byte(b'a', i, answers[i], stop, text);
+        stop = say_byte(rt, b'a', i, answers[i], stop, text);
         i += 1;
     }
     stop
 }
 
 // The line of a byte at a place of a buffer.
-fn say_byte(letter: u8, place: usize, byte: u8, at: usize, text: &mut [u8]) -> usize
+fn say_byte(rt: &impl Print, letter: u8, place: usize, byte: u8, at: usize, text: &mut [u8]) -> usize
     requires at_in_bounds { at ≤ length text.old }
     requires in_bounds { 256 ≤ length text.old }
     ensures { result ≤ length text.new }
 {
-    say(letter, &[place as u64, byte as u64], at, text)
+    say(rt, letter, &[place as u64, byte as u64], at, text)
 }
 
 // The line of a byte at a place of a buffer, if it is not the pattern any more.
-fn say_if_changed(letter: u8, place: usize, byte: u8, at: usize, text: &mut [u8]) -> usize
+fn say_if_changed(rt: &impl Print, letter: u8, place: usize, byte: u8, at: usize, text: &mut [u8]) -> usize
     requires at_in_bounds { at ≤ length text.old }
     requires in_bounds { 256 ≤ length text.old }
     ensures { result ≤ length text.new }
@@ -123,7 +123,7 @@ fn say_if_changed(letter: u8, place: usize, byte: u8, at: usize, text: &mut [u8]
     if byte == PATTERN {
         return at;
     }
-    say_byte(letter, place, byte, at, text)
+    say_byte(rt, letter, place, byte, at, text)
 }
 
 // Where the first n parts of a buffer end, each of so many bytes; its own end, where it does not hold so many.
@@ -138,7 +138,7 @@ fn end_of_parts(buffer: &[u8], n: usize, bytes: usize) -> usize
 }
 
 // A line for each byte after the first n parts of a buffer, each of so many bytes, that is not the pattern any more.
-pub fn say_changed(
+pub fn say_changed(rt: &impl Print, 
     letter: u8,
     buffer: &[u8],
     n: usize,
@@ -154,21 +154,21 @@ pub fn say_changed(
     let mut stop = at;
     let mut i = end_of_parts(buffer, n, bytes);
     while i < buffer.len() {
-        stop = say_if_changed(letter, i, buffer[i], stop, text);
+        stop = say_if_changed(rt, letter, i, buffer[i], stop, text);
         i += 1;
     }
     stop
 }
 
 // The line of an order place of a file place.
-fn say_order(file_place: usize, place: usize, o: Order, at: usize, text: &mut [u8]) -> usize
+fn say_order(rt: &impl Print, file_place: usize, place: usize, o: Order, at: usize, text: &mut [u8]) -> usize
     requires at_in_bounds { at ≤ length text.old }
     requires in_bounds { 256 ≤ length text.old }
     ensures { result ≤ length text.new }
 {
     let waited = o.waited;
     let pending = o.pending;
-    say(
+    say(rt, 
         b'o',
         &[
             file_place as u64,
@@ -190,7 +190,7 @@ fn say_order(file_place: usize, place: usize, o: Order, at: usize, text: &mut [u
 }
 
 // The line of an order place of a file place with so many orders, if it is in use or not zero.
-fn say_order_place(
+fn say_order_place(rt: &impl Print, 
     file_place: usize,
     count: usize,
     place: usize,
@@ -205,16 +205,16 @@ fn say_order_place(
     if count <= place && premise_kept::is_blank(o) {
         return at;
     }
-    say_order(file_place, place, o, at, text)
+    say_order(rt, file_place, place, o, at, text)
 }
 
 // A file place's line, and those of its order places that are in use or not zero.
-fn say_file(place: usize, f: File, at: usize, text: &mut [u8]) -> usize
+fn say_file(rt: &impl Print, place: usize, f: File, at: usize, text: &mut [u8]) -> usize
     requires at_in_bounds { at ≤ length text.old }
     requires in_bounds { 256 ≤ length text.old }
     ensures { result ≤ length text.new }
 {
-    let mut stop = say(
+    let mut stop = say(rt, 
         b'f',
         &[
             place as u64,
@@ -232,14 +232,14 @@ fn say_file(place: usize, f: File, at: usize, text: &mut [u8]) -> usize
     let mut i: usize = 0;
     while i < premise::MOST_ORDERS {
         let o = f.orders[i];
-        stop = say_order_place(place, f.count, i, o, stop, text);
+        stop = say_order_place(rt, place, f.count, i, o, stop, text);
         i += 1;
     }
     stop
 }
 
 // The lines of a file place of a book with so many files, if it is in use or not zero.
-fn say_file_place(count: usize, place: usize, f: File, at: usize, text: &mut [u8]) -> usize
+fn say_file_place(rt: &impl Print, count: usize, place: usize, f: File, at: usize, text: &mut [u8]) -> usize
     requires at_in_bounds { at ≤ length text.old }
     requires in_bounds { 256 ≤ length text.old }
     ensures { result ≤ length text.new }
@@ -247,16 +247,16 @@ fn say_file_place(count: usize, place: usize, f: File, at: usize, text: &mut [u8
     if count <= place && premise_kept::file_blank(f) {
         return at;
     }
-    say_file(place, f, at, text)
+    say_file(rt, place, f, at, text)
 }
 
 // The book's line: T, the number of files, the four totals.
-fn say_head(today: u16, count: usize, w: Waiting, at: usize, text: &mut [u8]) -> usize
+fn say_head(rt: &impl Print, today: u16, count: usize, w: Waiting, at: usize, text: &mut [u8]) -> usize
     requires at_in_bounds { at ≤ length text.old }
     requires in_bounds { 256 ≤ length text.old }
     ensures { result ≤ length text.new }
 {
-    say(
+    say(rt, 
         b'b',
         &[
             today as u64,
@@ -272,16 +272,16 @@ fn say_head(today: u16, count: usize, w: Waiting, at: usize, text: &mut [u8]) ->
 }
 
 // The book's line, and those of its file places that are in use or not zero.
-pub fn say_book(b: Book, at: usize, text: &mut [u8]) -> usize
+pub fn say_book(rt: &impl Print, b: Book, at: usize, text: &mut [u8]) -> usize
     requires at_in_bounds { at ≤ length text.old }
     requires in_bounds { 256 ≤ length text.old }
     ensures { result ≤ length text.new }
 {
-    let mut stop = say_head(b.today, b.count, b.waiting, at, text);
+    let mut stop = say_head(rt, b.today, b.count, b.waiting, at, text);
     let mut i: usize = 0;
     while i < book::MOST_FILES {
         let f = b.files[i];
-        stop = say_file_place(b.count, i, f, stop, text);
+        stop = say_file_place(rt, b.count, i, f, stop, text);
         i += 1;
     }
     stop

@@ -2,6 +2,6 @@
 // before returned. `tape_io` has its work.
 #![tactic(auto)]
 
-fn main() {
-    tape_io::run(true);
+fn main(rt: HostRuntime) {
+    tape_io::run(&rt, true);
 }

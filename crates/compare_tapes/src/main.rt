@@ -11,6 +11,8 @@
 ghost use Rattle.std.specs.Prelude.{◌≡◌, ◌++◌, ◌+◌, ◌≤◌, length, drop};
 ghost use Rattle.compare_tapes.specs.Sizes.{room_for_tape};
 
+use std::fs::File;
+use std::io;
 use tape_agreement_rules::Agreement;
 use tape_io::Got;
 
@@ -33,49 +35,48 @@ fn room_for_tape() -> [u8; TAPE_BYTES + 1]
     [0; TAPE_BYTES + 1]
 }
 
-// Says words on standard error.
-fn say(words: &[u8]) {
-    io::write_all(libc::STDERR_FILENO, words);
-}
-
 // Says that a tape can't be read, and why.
-fn complain(argument: usize) {
+fn complain(rt: &HostRuntime, argument: usize, error: io::Error) {
     if argument == OURS {
-        os::fail(b"compare_tapes: our tape");
+        tape_io::fail(rt, b"compare_tapes: our tape", error);
     } else {
-        os::fail(b"compare_tapes: their tape");
+        tape_io::fail(rt, b"compare_tapes: their tape", error);
     }
-    say(
+    tape_io::say(
+        rt,
         b"compare_tapes: nothing was compared; give two tapes that can be read, as in: compare_tapes OURS THEIRS\n",
     );
 }
 
 // Says that a tape is too long.
-fn complain_of_length(argument: usize) {
+fn complain_of_length(rt: &HostRuntime, argument: usize) {
     if argument == OURS {
-        say(b"compare_tapes: our tape");
+        tape_io::say(rt, b"compare_tapes: our tape");
     } else {
-        say(b"compare_tapes: their tape");
+        tape_io::say(rt, b"compare_tapes: their tape");
     }
-    say(
+    tape_io::say(
+        rt,
         b" has more than the 1048560 bytes that are taken; nothing was compared; give tapes of at most 43690 records\n",
     );
 }
 
-// Opens the tape that an argument names; a negative number where that fails.
-fn open_tape(argument: usize) -> i32 {
-    let mut path = io::buffer();
-    let n = os::arg(argument, &mut path);
-    // a name that is too long is not cut: the system is asked for no file
-    if os::errno() != 0 {
-        complain(argument);
-        return -1;
+// The tape of a name, opened.
+fn open_named(rt: &HostRuntime, argument: usize) -> io::Result<File> {
+    let mut path = [0u8; tape_io::WORD_BYTES];
+    let n = tape_io::file_name(rt, argument, &mut path)?;
+    tape_io::open(rt, &path[0..n])
+}
+
+// Opens the tape that an argument names; where that fails, it is said.
+fn open_tape(rt: &HostRuntime, argument: usize) -> Option<File> {
+    match open_named(rt, argument) {
+        Ok(tape) => Some(tape),
+        Err(error) => {
+            complain(rt, argument, error);
+            None
+        }
     }
-    let fd = os::open_read(&path[0..n]);
-    if fd < 0 {
-        complain(argument);
-    }
-    fd
 }
 
 // Puts bytes at the front of a buffer; the rest stays.
@@ -91,61 +92,57 @@ fn put_front(bytes: &[u8], buffer: &mut [u8])
 }
 
 // Reads on behind the bytes that stand at the front of a buffer; how many stand there then.
-fn read_behind(fd: i32, done: usize, buffer: &mut [u8]) -> Got
+fn read_behind(tape: &mut File, done: usize, buffer: &mut [u8]) -> Got
     requires { done ≤ length buffer.old }
     ensures { result.count ≤ length buffer.new }
 {
     let rest = &mut buffer[done..];
-    let got = tape_io::read_up_to(fd, rest);
+    let got = tape_io::read_up_to(tape, rest);
     Got {
         count: done + got.count,
         failed: got.failed,
     }
 }
 
-// The whole of a tape whose first bytes were read, in a room for the longest; what is wrong with it is said.
-fn read_whole(argument: usize, fd: i32, first: &[u8], room: &mut [u8]) -> Got
+// The whole of a tape whose first bytes were read, in a room for the longest; none where something is wrong with it, which is said.
+fn read_whole(
+    rt: &HostRuntime,
+    argument: usize,
+    tape: &mut File,
+    first: &[u8],
+    room: &mut [u8],
+) -> Option<usize>
     requires { length first.now ≤ length room.old }
-    ensures { result.count ≤ length room.new }
+    ensures { IfSome result (λ count. count ≤ length room.new) }
 {
     put_front(first, room);
-    let got = read_behind(fd, first.len(), room);
-    if got.failed {
-        complain(argument);
-        return got;
+    let got = read_behind(tape, first.len(), room);
+    if let Some(error) = got.failed {
+        complain(rt, argument, error);
+        return None;
     }
     if TAPE_BYTES < got.count {
-        complain_of_length(argument);
-        return Got {
-            count: 0,
-            failed: true,
-        };
+        complain_of_length(rt, argument);
+        return None;
     }
-    got
+    Some(got.count)
 }
 
-// Prints the answer's line; whether it was written whole.
-fn print(answer: Agreement) -> bool {
+// Prints the answer's line.
+fn print(rt: &impl Print, answer: Agreement) -> io::Result<()> {
     match answer {
-        Agreement::Same => io::write_all(libc::STDOUT_FILENO, b"yes 0\n"),
-        Agreement::MarksDiffer => io::write_all(libc::STDOUT_FILENO, b"no 0\n"),
-        Agreement::Differ(premise) => {
-            if !io::write_all(libc::STDOUT_FILENO, b"no ") {
-                return false;
-            }
-            if !io::print_decimal(libc::STDOUT_FILENO, premise) {
-                return false;
-            }
-            io::write_all(libc::STDOUT_FILENO, b"\n")
-        }
+        Agreement::Same => rt.write_all(b"yes 0\n"),
+        Agreement::MarksDiffer => rt.write_all(b"no 0\n"),
+        Agreement::Differ(premise) => println!(rt; "no {premise}"),
     }
 }
 
 // Compares two tapes and prints what is said.
-fn answer(ours: &[u8], theirs: &[u8]) {
-    if !print(tape_agreement::compare(ours, theirs)) {
-        os::fail(b"compare_tapes: cannot write to standard output");
-        say(
+fn answer(rt: &HostRuntime, ours: &[u8], theirs: &[u8]) {
+    if let Err(error) = print(rt, tape_agreement::compare(ours, theirs)) {
+        tape_io::fail(rt, b"compare_tapes: cannot write to standard output", error);
+        tape_io::say(
+            rt,
             b"compare_tapes: the answer is not whole; make room or give another place, and compare again\n",
         );
     }
@@ -153,66 +150,68 @@ fn answer(ours: &[u8], theirs: &[u8]) {
 
 // Compares tapes of which one at least did not end in a short room: each is read whole in a room of its own, ours and then, with ours at
 // hand, theirs. Calling itself, it stays a function of its own, and its rooms take no time where they are not needed.
-fn compare_long(next: usize, our_fd: i32, ours: &[u8], their_fd: i32, theirs: &[u8])
+fn compare_long(
+    rt: &HostRuntime,
+    next: usize,
+    our_tape: &mut File,
+    ours: &[u8],
+    their_tape: &mut File,
+    theirs: &[u8],
+)
     requires { (length ours.now ≤ room_for_tape) × (length theirs.now ≤ room_for_tape) }
 {
     let mut room = room_for_tape();
     if next == OURS {
-        let got = read_whole(OURS, our_fd, ours, &mut room);
-        if got.failed {
-            return;
+        if let Some(m) = read_whole(rt, OURS, our_tape, ours, &mut room) {
+            compare_long(rt, THEIRS, our_tape, &room[0..m], their_tape, theirs);
         }
-        let m = got.count;
-        compare_long(THEIRS, our_fd, &room[0..m], their_fd, theirs);
         return;
     }
-    let got = read_whole(THEIRS, their_fd, theirs, &mut room);
-    if got.failed {
-        return;
+    if let Some(n) = read_whole(rt, THEIRS, their_tape, theirs, &mut room) {
+        answer(rt, ours, &room[0..n]);
     }
-    let n = got.count;
-    answer(ours, &room[0..n]);
 }
 
 // The same by way of a short room, as far as both tapes end in it.
-fn compare_open(our_fd: i32, their_fd: i32) {
-    let mut ours = io::large_buffer();
-    let got = tape_io::read_up_to(our_fd, &mut ours);
-    if got.failed {
-        complain(OURS);
+fn compare_open(rt: &HostRuntime, our_tape: &mut File, their_tape: &mut File) {
+    let mut ours = [0u8; SHORT_ROOM];
+    let got = tape_io::read_up_to(our_tape, &mut ours);
+    if let Some(error) = got.failed {
+        complain(rt, OURS, error);
         return;
     }
     let m = got.count;
     if m == SHORT_ROOM {
-        compare_long(OURS, our_fd, &ours[0..m], their_fd, b"");
+        compare_long(rt, OURS, our_tape, &ours[0..m], their_tape, b"");
         return;
     }
-    let mut theirs = io::large_buffer();
-    let other = tape_io::read_up_to(their_fd, &mut theirs);
-    if other.failed {
-        complain(THEIRS);
+    let mut theirs = [0u8; SHORT_ROOM];
+    let other = tape_io::read_up_to(their_tape, &mut theirs);
+    if let Some(error) = other.failed {
+        complain(rt, THEIRS, error);
         return;
     }
     let n = other.count;
     if n == SHORT_ROOM {
-        compare_long(OURS, our_fd, &ours[0..m], their_fd, &theirs[0..n]);
+        compare_long(rt, OURS, our_tape, &ours[0..m], their_tape, &theirs[0..n]);
         return;
     }
-    answer(&ours[0..m], &theirs[0..n]);
+    answer(rt, &ours[0..m], &theirs[0..n]);
 }
 
-fn main() {
-    if os::arg_count() != 3 {
-        say(b"compare_tapes: give two tapes, ours and theirs, as in: compare_tapes OURS THEIRS\n");
+fn main(rt: HostRuntime) {
+    if tape_io::count_words(&rt) != 3 {
+        tape_io::say(
+            &rt,
+            b"compare_tapes: give two tapes, ours and theirs, as in: compare_tapes OURS THEIRS\n",
+        );
         return;
     }
-    let ours = open_tape(OURS);
-    if ours < 0 {
+    let Some(mut ours) = open_tape(&rt, OURS) else {
         return;
-    }
-    let theirs = open_tape(THEIRS);
-    if theirs < 0 {
+    };
+    let Some(mut theirs) = open_tape(&rt, THEIRS) else {
         return;
-    }
-    compare_open(ours, theirs);
+    };
+    compare_open(&rt, &mut ours, &mut theirs);
 }

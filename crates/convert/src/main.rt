@@ -12,6 +12,9 @@ ghost use Rattle.std.specs.Prelude.{◌≡◌, ◌≤◌, length};
 ghost use Rattle.convert.specs.Sizes.{most_in, most_out};
 
 use first_fittings_rules::{Answer, Conversion, OLD_LENGTH, OUR_LENGTH};
+use std::io;
+use std::io::{ErrorKind, Read};
+use std::rt::Env;
 
 // The longest tape that is taken, whole records of either size, and what it is converted to at most.
 const MOST_IN: usize = 1_048_560;
@@ -50,31 +53,32 @@ fn room_for_converted() -> [u8; MOST_OUT]
 }
 
 // Says words on standard error.
-fn say(words: &[u8]) {
-    io::write_all(libc::STDERR_FILENO, words);
+fn say(rt: &HostRuntime, words: &[u8]) {
+    tape_io::say(rt, words);
 }
 
 // Says a number on standard error, and words behind it.
-fn say_number(n: usize, words: &[u8]) {
-    io::print_decimal(libc::STDERR_FILENO, n as u64);
-    say(words);
+fn say_number(rt: &HostRuntime, n: usize, words: &[u8]) {
+    let _ = eprint!(rt; "{n}");
+    say(rt, words);
 }
 
 // Says why a tape was refused, and what to do.
-fn explain(answer: Answer, bytes: usize, size: usize, room: usize, needed: usize) {
-    say(b"convert: ");
+fn explain(rt: &HostRuntime, answer: Answer, bytes: usize, size: usize, room: usize, needed: usize) {
+    say(rt, b"convert: ");
     let number = first_fittings::number_of(answer);
-    say_number(number as usize, b": ");
+    say_number(rt, number as usize, b": ");
     match answer {
         Answer::NotWhole => {
-            say_number(bytes, b" bytes are no multiple of ");
-            say_number(size, b"; give whole records\n");
+            say_number(rt, bytes, b" bytes are no multiple of ");
+            say_number(rt, size, b"; give whole records\n");
         }
         Answer::ShortBuffer => {
-            say_number(room, b" bytes of room are fewer than the ");
-            say_number(needed, b" of the converted tape; give more\n");
+            say_number(rt, room, b" bytes of room are fewer than the ");
+            say_number(rt, needed, b" of the converted tape; give more\n");
         }
         _ => say(
+            rt,
             b"a record has a byte in 20 to 23 that is not zero, and 20 bytes have no place for it; set it to zero\n",
         ),
     }
@@ -126,9 +130,9 @@ fn room_in(word: &[u8]) -> Room
 }
 
 // The length of the records that come in, by the first word; 0 where it is neither of the two.
-fn size_in() -> usize {
-    let mut word = io::buffer();
-    let n = os::arg(1, &mut word);
+fn size_in(env: &impl Env) -> usize {
+    let mut word = [0u8; tape_io::WORD_BYTES];
+    let n = tape_io::word(env, 1, &mut word);
     if is_word(&word[0..n], b"to24") {
         return OLD_LENGTH;
     }
@@ -139,18 +143,18 @@ fn size_in() -> usize {
 }
 
 // The room, by the second word; none is given where there is no such word.
-fn room_given() -> Room
+fn room_given(env: &impl Env) -> Room
     ensures { result.bytes ≤ most_out }
 {
-    let count = os::arg_count();
+    let count = tape_io::count_words(env);
     if count < 3 {
         return no_room(true);
     }
     if 3 < count {
         return no_room(false);
     }
-    let mut word = io::buffer();
-    let n = os::arg(2, &mut word);
+    let mut word = [0u8; tape_io::WORD_BYTES];
+    let n = tape_io::word(env, 2, &mut word);
     room_in(&word[0..n])
 }
 
@@ -176,73 +180,87 @@ fn converted(size: usize, tape: &[u8], output: &mut [u8]) -> Conversion
 }
 
 // Converts a tape and writes it to standard output, or says why it was refused.
-fn convert(size: usize, needed: usize, tape: &[u8], output: &mut [u8]) {
+fn convert(rt: &HostRuntime, size: usize, needed: usize, tape: &[u8], output: &mut [u8]) {
     let c = converted(size, tape, output);
     let answer = c.answer;
     let written = c.written;
     match answer {
         Answer::Converted => {
-            if !io::write_all(libc::STDOUT_FILENO, &output[0..written]) {
-                os::fail(
+            if let Err(error) = rt.write_all(&output[0..written]) {
+                tape_io::fail(
+                    rt,
                     b"convert: cannot write to standard output; what stands there is not whole: make room, and convert the tape again",
+                    error,
                 );
             }
         }
-        _ => explain(answer, tape.len(), size, output.len(), needed),
+        _ => explain(rt, answer, tape.len(), size, output.len(), needed),
     }
 }
 
 // Converts a tape with the room that is given, or with as much as is needed.
-fn convert_in(size: usize, room: Room, tape: &[u8])
+fn convert_in(rt: &HostRuntime, size: usize, room: Room, tape: &[u8])
     requires { (length tape.now ≤ most_in) × (room.bytes ≤ most_out) }
 {
     let needed = needed_for(size, tape.len());
     let mut output = room_for_converted();
     let given = room.bytes;
     if room.given {
-        convert(size, needed, tape, &mut output[0..given]);
+        convert(rt, size, needed, tape, &mut output[0..given]);
         return;
     }
-    convert(size, needed, tape, &mut output[0..needed]);
+    convert(rt, size, needed, tape, &mut output[0..needed]);
 }
 
-// Reads standard input to its end and converts it.
-fn convert_input(size: usize, room: Room)
+// Says that a read failed, and why.
+fn complain(rt: &HostRuntime, error: io::Error) {
+    tape_io::fail(
+        rt,
+        b"convert: cannot read the tape from standard input; give a readable file or pipe",
+        error,
+    );
+}
+
+// Reads standard input to its end and converts it. A byte that comes behind an end, or behind a read that failed, is no part of a tape.
+fn convert_input(rt: &HostRuntime, size: usize, room: Room)
     requires { room.bytes ≤ most_out }
 {
     let mut tape = room_for_tape();
-    let count = io::read_full(libc::STDIN_FILENO, &mut tape);
+    let mut input = rt.stdin();
+    let got = tape_io::read_up_to(&mut input, &mut tape);
+    let count = got.count;
     let mut next = [0u8; 1];
-    let more = libc::read(libc::STDIN_FILENO, &mut next);
-    if (more < 0) | ((0 < more) & (count < MOST_IN)) {
-        os::fail(
-            b"convert: cannot read the tape from standard input; give a readable file or pipe",
-        );
-        return;
-    }
-    if 0 < more {
-        say(
+    match input.read(&mut next) {
+        Ok(0) => convert_in(rt, size, room, &tape[0..count]),
+        Ok(_) if count < MOST_IN => complain(
+            rt,
+            got.failed
+                .unwrap_or(io::Error::from(ErrorKind::UnexpectedEof)),
+        ),
+        Ok(_) => say(
+            rt,
             b"convert: the tape has more than the 1048560 bytes that are taken; give it in parts of whole records\n",
-        );
-        return;
+        ),
+        Err(error) => complain(rt, error),
     }
-    convert_in(size, room, &tape[0..count]);
 }
 
-fn main() {
-    let size = size_in();
+fn main(rt: HostRuntime) {
+    let size = size_in(&rt);
     if size == 0 {
         say(
+            &rt,
             b"convert: the first word is neither to24 nor to20; give one of them, as in: convert to24 <OLD >NEW\n",
         );
         return;
     }
-    let room = room_given();
+    let room = room_given(&rt);
     if !room.clear {
         say(
+            &rt,
             b"convert: what follows the first word is not one number of bytes up to 1258272; give one, or nothing\n",
         );
         return;
     }
-    convert_input(size, room);
+    convert_input(&rt, size, room);
 }

@@ -16,14 +16,7 @@ fn put_number(n: u64, start: usize, out: &mut [u8]) -> usize
     requires { start + 20 ≤ length out.old }
     ensures { result ≤ start + 20 }
 {
-    let mut digits = [0u8; 20];
-    let count = io::decimal(n, &mut digits);
-    let mut i: usize = 0;
-    while i < count {
-        out[start + i] = digits[i];
-        i += 1;
-    }
-    start + count
+    tape_text::put_number(n, start, out)
 }
 
 // The answer's number and the premise number.

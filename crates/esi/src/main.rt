@@ -11,6 +11,8 @@ ghost use Rattle.esi_rules.specs.Directory.{sound as Directory·sound};
 ghost use Rattle.esi_rules.specs.LookUp.{look_up};
 
 use esi_rules::{Answer, LookedUp};
+use std::io;
+use std::rt::Env;
 use tape_io::Got;
 
 // The most bytes of a directory: 2,730 records.
@@ -19,47 +21,44 @@ const DIRECTORY_BYTES: usize = 65_520;
 // The first text among the arguments: before it stand the program's name and the directory's.
 const FIRST_TEXT: usize = 2;
 
-// Says on standard error what was not done, and what to do.
-fn advise(advice: &[u8]) {
-    io::write_all(libc::STDERR_FILENO, advice);
-}
+// The room for lines, which are written many at once.
+const OUT_BYTES: usize = 65_536;
 
 // Says which file can't be read, and why.
-fn complain(path: &[u8]) {
-    os::fail(path);
-    advise(
+fn complain(rt: &HostRuntime, path: &[u8], error: io::Error) {
+    tape_io::fail(rt, path, error);
+    tape_io::say(
+        rt,
         b"esi: nothing was looked up; give a directory that can be read, as in: esi DIRECTORY TEXT..\n",
     );
 }
 
-// Reads the directory that the first argument names.
-fn read_directory(buffer: &mut [u8]) -> Got
+// Reads a directory of a name.
+fn read_named(rt: &HostRuntime, path: &[u8], buffer: &mut [u8]) -> Got
     ensures { result.count ≤ length buffer.new }
 {
-    let mut path = io::buffer();
-    let n = os::arg(1, &mut path);
-    // a name that is too long is not cut: the system is asked for no file
-    if os::errno() != 0 {
-        complain(b"esi: the directory's name");
-        return Got {
-            count: 0,
-            failed: true,
-        };
+    let got = match tape_io::open(rt, path) {
+        Ok(mut file) => tape_io::read_up_to(&mut file, buffer),
+        Err(error) => tape_io::failed_with(error),
+    };
+    if let Some(error) = got.failed {
+        complain(rt, path, error);
     }
-    let fd = os::open_read(&path[0..n]);
-    if fd < 0 {
-        complain(&path[0..n]);
-        return Got {
-            count: 0,
-            failed: true,
-        };
-    }
-    let got = tape_io::read_up_to(fd, buffer);
-    if got.failed {
-        complain(&path[0..n]);
-    }
-    libc::close(fd);
     got
+}
+
+// Reads the directory that the first argument names.
+fn read_directory(rt: &HostRuntime, buffer: &mut [u8]) -> Got
+    ensures { result.count ≤ length buffer.new }
+{
+    let mut path = [0u8; tape_io::WORD_BYTES];
+    match tape_io::file_name(rt, 1, &mut path) {
+        Ok(n) => read_named(rt, &path[0..n], buffer),
+        Err(error) => {
+            complain(rt, b"esi: the directory's name", error);
+            tape_io::failed_with(error)
+        }
+    }
 }
 
 // A look-up in a directory that was tested before: the test's result says whether it is sound.
@@ -77,16 +76,21 @@ fn look_up_tested(directory: &[u8], sound: bool, text: &[u8]) -> LookedUp
 }
 
 // Looks the text of an argument up. A text that is longer than the buffer counts as empty: neither is 17 or 22 digits.
-fn look_up_argument(directory: &[u8], sound: bool, i: usize) -> LookedUp
+fn look_up_argument(rt: &impl Env, directory: &[u8], sound: bool, i: usize) -> LookedUp
     requires { sound ≡ Directory·sound directory.now }
 {
-    let mut text = io::buffer();
-    let n = os::arg(i, &mut text);
+    let mut text = [0u8; tape_io::WORD_BYTES];
+    let n = tape_io::word(rt, i, &mut text);
     look_up_tested(directory, sound, &text[0..n])
 }
 
-// Prints a line for each text, by way of a buffer; whether every write was taken.
-fn answer_in(directory: &[u8], count: usize, out: &mut [u8]) -> bool
+// Prints a line for each text, by way of a buffer, until a write fails.
+fn answer_in(
+    rt: &(impl Env + Print),
+    directory: &[u8],
+    count: usize,
+    out: &mut [u8],
+) -> io::Result<()>
     requires { line_most ≤ length out.old }
 {
     let sound = esi_directory::is_sound(directory);
@@ -94,48 +98,49 @@ fn answer_in(directory: &[u8], count: usize, out: &mut [u8]) -> bool
     let mut i: usize = FIRST_TEXT;
     while i < count {
         if out.len() - at < lines::LINE_MOST {
-            if !io::write_all(libc::STDOUT_FILENO, &out[0..at]) {
-                return false;
-            }
+            rt.write_all(&out[0..at])?;
             at = 0;
         }
-        let found = look_up_argument(directory, sound, i);
+        let found = look_up_argument(rt, directory, sound, i);
         at = lines::put_line(found, at, out);
         i += 1;
     }
-    io::write_all(libc::STDOUT_FILENO, &out[0..at])
+    rt.write_all(&out[0..at])
 }
 
 // The same in a buffer of its own.
-fn answer_all(directory: &[u8], count: usize) -> bool {
-    let mut out = io::large_buffer();
-    answer_in(directory, count, &mut out)
+fn answer_all(rt: &(impl Env + Print), directory: &[u8], count: usize) -> io::Result<()> {
+    let mut out = [0u8; OUT_BYTES];
+    answer_in(rt, directory, count, &mut out)
 }
 
 // Reads the directory, and looks up in it; one byte more than it may have shows that it is too long.
-fn main() {
-    let count = os::arg_count();
+fn main(rt: HostRuntime) {
+    let count = tape_io::count_words(&rt);
     if count < FIRST_TEXT {
-        advise(
+        tape_io::say(
+            &rt,
             b"esi: give a directory of ESI IDs and the texts to look up, as in: esi DIRECTORY TEXT..\n",
         );
         return;
     }
     let mut directory = [0u8; DIRECTORY_BYTES + 1];
-    let got = read_directory(&mut directory);
-    if got.failed {
+    let got = read_directory(&rt, &mut directory);
+    if got.failed.is_some() {
         return;
     }
     let n = got.count;
     if DIRECTORY_BYTES < n {
-        advise(
+        tape_io::say(
+            &rt,
             b"esi: the directory has more than 65,520 bytes; nothing was looked up; give one of at most 2,730 records\n",
         );
         return;
     }
-    if !answer_all(&directory[0..n], count) {
-        os::fail(b"esi: cannot write to standard output");
-        advise(
+    if let Err(error) = answer_all(&rt, &directory[0..n], count) {
+        tape_io::fail(&rt, b"esi: cannot write to standard output", error);
+        tape_io::say(
+            &rt,
             b"esi: the output is not whole; make room or give another place, and look up again\n",
         );
     }

@@ -19,30 +19,30 @@ const LONGEST_RECORD: usize = 256;
 const LONGEST_BUFFER: usize = 65_536;
 
 // Prints the lines of a call: what it returned, and what stands in the notice buffer.
-fn print(place: u64, reply: Reply, buffer: &[u8], text: &mut [u8])
+fn print(rt: &impl Print, place: u64, reply: Reply, buffer: &[u8], text: &mut [u8])
     requires { 256 ≤ length text.old }
 {
     let answer = reply.answer;
     let number = premise_rows::number_of(answer);
-    let mut at = call_bytes::say(b'c', &[place, number as u64, reply.sent as u64], 0, text);
-    at = call_bytes::say_notices(buffer, reply.sent, at, text);
-    at = call_bytes::say_changed(b'x', buffer, reply.sent, records::RECORD_LENGTH, at, text);
+    let mut at = call_bytes::say(rt, b'c', &[place, number as u64, reply.sent as u64], 0, text);
+    at = call_bytes::say_notices(rt, buffer, reply.sent, at, text);
+    at = call_bytes::say_changed(rt, b'x', buffer, reply.sent, records::RECORD_LENGTH, at, text);
     let c = reply.book;
-    at = call_bytes::say_book(c, at, text);
-    call_bytes::write_out(at, text);
+    at = call_bytes::say_book(rt, c, at, text);
+    call_bytes::write_out(rt, at, text);
 }
 
 // Makes a call and prints its lines.
-fn make(place: u64, b: Book, calendar: &[u8], bytes: &[u8], buffer: &mut [u8], text: &mut [u8])
+fn make(rt: &impl Print, place: u64, b: Book, calendar: &[u8], bytes: &[u8], buffer: &mut [u8], text: &mut [u8])
     requires { 256 ≤ length text.old }
 {
     call_bytes::fill(buffer);
     let reply = book_calls::record_call(calendar, b, bytes, buffer);
-    print(place, reply, buffer, text);
+    print(rt, place, reply, buffer, text);
 }
 
 // Reads the rest of a call on a book, makes it and prints its lines; whether another may follow.
-fn play_on(
+fn play_on(rt: &HostRuntime, 
     place: u64,
     b: Book,
     calendar: &mut [u8],
@@ -52,19 +52,19 @@ fn play_on(
 ) -> bool
     requires { 256 ≤ length text.old }
 {
-    let days = take_part(&NAME, calendar);
+    let days = take_part(rt, &NAME, calendar);
     if calendar.len() < days {
         return false;
     }
-    let length = take_part(&NAME, bytes);
+    let length = take_part(rt, &NAME, bytes);
     if bytes.len() < length {
         return false;
     }
-    let room = take_room(&NAME, buffer.len());
+    let room = take_room(rt, &NAME, buffer.len());
     if buffer.len() < room {
         return false;
     }
-    make(
+    make(rt, 
         place,
         b,
         &calendar[0..days],
@@ -76,7 +76,7 @@ fn play_on(
 }
 
 // Reads one call to buffers, makes it and prints its lines; whether another may follow.
-fn play_by(
+fn play_by(rt: &HostRuntime, 
     place: u64,
     book: &mut [u8],
     calendar: &mut [u8],
@@ -86,22 +86,22 @@ fn play_by(
 ) -> bool
     requires { 256 ≤ length text.old }
 {
-    let taken = call_bytes::take_book(&NAME, book);
+    let taken = call_bytes::take_book(rt, &NAME, book);
     if !taken.came {
         return false;
     }
     let b = taken.book;
-    play_on(place, b, calendar, bytes, buffer, text)
+    play_on(rt, place, b, calendar, bytes, buffer, text)
 }
 
 // Plays one call; whether another may follow.
-fn play_one(place: u64) -> bool {
+fn play_one(rt: &HostRuntime, place: u64) -> bool {
     let mut book = [0u8; call_bytes::BOOK_BYTES];
     let mut calendar = [0u8; LONGEST_CALENDAR];
     let mut bytes = [0u8; LONGEST_RECORD];
     let mut buffer = [0u8; LONGEST_BUFFER];
     let mut text = [0u8; call_bytes::TEXT_BYTES];
-    play_by(
+    play_by(rt, 
         place,
         &mut book,
         &mut calendar,
@@ -112,9 +112,9 @@ fn play_one(place: u64) -> bool {
 }
 
 // Plays calls to the end of the input.
-fn main() {
+fn main(rt: HostRuntime) {
     let mut place: u64 = 1;
-    while place < u64::MAX && play_one(place) {
+    while place < u64::MAX && play_one(&rt, place) {
         place += 1;
     }
 }

@@ -1,8 +1,9 @@
-// A tape played from its bytes, and its text written over C's write. The work stands in `tape_player`, which is handed bytes.
+// A tape played from its bytes, and its text written to standard output. The work stands in `tape_player`, which is handed bytes.
 ghost use Rattle.std.specs.Prelude.{◌≡◌, ◌≤◌, min, length};
 ghost use Rattle.tape_output.specs.Output.{calendar_most, tape_most};
 ghost use Rattle.tape_output.specs.Stretches.{stretch, left, Ready, Roomy, Plays};
 
+use std::io;
 use tape_output::{Playing, Stretch};
 
 // How many bytes of a calendar and of a tape are read.
@@ -38,9 +39,10 @@ fn stretch_by(
     tape_player::play_on(calendar, p, tape, answers, counts, notices, out)
 }
 
-// Plays a tape in the buffers that it is lent, and writes its text to standard output, stretch by stretch; whether every write was
-// taken.
+// Plays a tape in the buffers that it is lent, and writes its text to standard output, stretch by stretch, until a write
+// fails.
 fn play_in(
+    rt: &impl Print,
     by_calls: bool,
     calendar: &[u8],
     tape: &[u8],
@@ -48,7 +50,7 @@ fn play_in(
     counts: &mut [u16],
     notices: &mut [u8],
     out: &mut [u8],
-) -> bool
+) -> io::Result<()>
     requires calendar_len_bound { length calendar.now ≤ calendar_most }
     requires tape_len_bound { length tape.now ≤ tape_most }
     requires roomy { Roomy answers.old counts.old notices.old out.old }
@@ -57,11 +59,9 @@ fn play_in(
     loop {
         let s = stretch_by(by_calls, calendar, p, tape, answers, counts, notices, out);
         let stop = s.stop;
-        if !io::write_all(libc::STDOUT_FILENO, &out[0..stop]) {
-            return false;
-        }
+        rt.write_all(&out[0..stop])?;
         if s.done {
-            return true;
+            return Ok(());
         }
         p = s.playing;
     }
@@ -89,9 +89,14 @@ fn bytes_played(given: usize) -> usize
     }
 }
 
-// Plays the first bytes of a tape by the first of a calendar and writes its text to standard output; whether every write was taken. It
-// asks nothing: the buffers are its own, and a longer calendar or tape is cut here and not by who calls it.
-pub fn play_by(by_calls: bool, calendar: &[u8], tape: &[u8]) -> bool {
+// Plays the first bytes of a tape by the first of a calendar and writes its text to standard output, until a write fails. It asks nothing:
+// the buffers are its own, and a longer calendar or tape is cut here and not by who calls it.
+pub fn play_by(
+    rt: &impl Print,
+    by_calls: bool,
+    calendar: &[u8],
+    tape: &[u8],
+) -> io::Result<()> {
     let mut answers = [0u8; STRETCH_RECORDS];
     let mut counts = [0u16; STRETCH_RECORDS];
     let mut notices = [0u8; STRETCH_NOTICES];
@@ -99,6 +104,7 @@ pub fn play_by(by_calls: bool, calendar: &[u8], tape: &[u8]) -> bool {
     let days = days_read(calendar.len());
     let played = bytes_played(tape.len());
     play_in(
+        rt,
         by_calls,
         &calendar[0..days],
         &tape[0..played],
@@ -110,6 +116,6 @@ pub fn play_by(by_calls: bool, calendar: &[u8], tape: &[u8]) -> bool {
 }
 
 // The same by one loop over the records, as the tape program plays them.
-pub fn play(calendar: &[u8], tape: &[u8]) -> bool {
-    play_by(false, calendar, tape)
+pub fn play(rt: &impl Print, calendar: &[u8], tape: &[u8]) -> io::Result<()> {
+    play_by(rt, false, calendar, tape)
 }

@@ -28,7 +28,8 @@ const LONGEST_ANSWERS: usize = 4_096;
 const LONGEST_NOTICES: usize = 131_072;
 
 // The lines of both buffers: the answers and the notices, and the bytes behind them that were written.
-fn say_buffers(rt: &impl Print, 
+fn say_buffers(
+    rt: &impl Print,
     answers: &[u8],
     played: usize,
     notices: &[u8],
@@ -47,12 +48,20 @@ fn say_buffers(rt: &impl Print,
 }
 
 // Prints the lines of a call: what it returned, and what stands in the buffers.
-fn print(rt: &impl Print, place: u64, replies: Replies, answers: &[u8], notices: &[u8], text: &mut [u8])
+fn print(
+    rt: &impl Print,
+    place: u64,
+    replies: Replies,
+    answers: &[u8],
+    notices: &[u8],
+    text: &mut [u8],
+)
     requires { 256 ≤ length text.old }
 {
     let answer = replies.answer;
     let number = stretch_calls::number_of(answer);
-    let mut at = call_bytes::say(rt, 
+    let mut at = call_bytes::say(
+        rt,
         b'c',
         &[
             place,
@@ -70,7 +79,8 @@ fn print(rt: &impl Print, place: u64, replies: Replies, answers: &[u8], notices:
 }
 
 // Makes a call and prints its lines.
-fn make(rt: &impl Print, 
+fn make(
+    rt: &impl Print,
     place: u64,
     b: Book,
     calendar: &[u8],
@@ -88,7 +98,8 @@ fn make(rt: &impl Print,
 }
 
 // Reads the rest of a call on a book, makes it and prints its lines; whether another may follow.
-fn play_on(rt: &HostRuntime, 
+fn play_on(
+    rt: &HostRuntime,
     place: u64,
     b: Book,
     calendar: &mut [u8],
@@ -115,7 +126,8 @@ fn play_on(rt: &HostRuntime,
     if notices.len() < room {
         return false;
     }
-    make(rt, 
+    make(
+        rt,
         place,
         b,
         &calendar[0..days],
@@ -128,7 +140,8 @@ fn play_on(rt: &HostRuntime,
 }
 
 // Reads one call to buffers, makes it and prints its lines; whether another may follow.
-fn play_by(rt: &HostRuntime, 
+fn play_by(
+    rt: &HostRuntime,
     place: u64,
     book: &mut [u8],
     calendar: &mut [u8],
@@ -155,7 +168,8 @@ fn play_one(rt: &HostRuntime, place: u64) -> bool {
     let mut answers = [0u8; LONGEST_ANSWERS];
     let mut notices = [0u8; LONGEST_NOTICES];
     let mut text = [0u8; call_bytes::TEXT_BYTES];
-    play_by(rt, 
+    play_by(
+        rt,
         place,
         &mut book,
         &mut calendar,

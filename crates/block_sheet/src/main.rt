@@ -61,12 +61,7 @@ fn read_blocks(files: &impl Files, buffer: &mut [u8]) -> Got
 }
 
 // The sheet in buffers of its own, written to standard output.
-fn print_sheet(
-    rt: &impl Print,
-    calendar: &[u8],
-    tape: &[u8],
-    blocks: &[u8],
-) -> io::Result<()>
+fn print_sheet(rt: &impl Print, calendar: &[u8], tape: &[u8], blocks: &[u8]) -> io::Result<()>
     requires { length blocks.now ≤ row_length * most_rows }
 {
     let mut notices = [0u8; book::NOTICE_BYTES];

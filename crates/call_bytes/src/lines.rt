@@ -52,7 +52,8 @@ fn say_notice(rt: &impl Print, buffer: &[u8], from: usize, at: usize, text: &mut
     ensures { result ≤ length text.new }
 {
     let notice = record_bytes::read_notice(&buffer[from..]);
-    say(rt, 
+    say(
+        rt,
         b'n',
         &[
             notice.code as u64,
@@ -106,7 +107,14 @@ pub fn say_answers(rt: &impl Print, answers: &[u8], n: usize, at: usize, text: &
 }
 
 // The line of a byte at a place of a buffer.
-fn say_byte(rt: &impl Print, letter: u8, place: usize, byte: u8, at: usize, text: &mut [u8]) -> usize
+fn say_byte(
+    rt: &impl Print,
+    letter: u8,
+    place: usize,
+    byte: u8,
+    at: usize,
+    text: &mut [u8],
+) -> usize
     requires at_in_bounds { at ≤ length text.old }
     requires in_bounds { 256 ≤ length text.old }
     ensures { result ≤ length text.new }
@@ -115,7 +123,14 @@ fn say_byte(rt: &impl Print, letter: u8, place: usize, byte: u8, at: usize, text
 }
 
 // The line of a byte at a place of a buffer, if it is not the pattern any more.
-fn say_if_changed(rt: &impl Print, letter: u8, place: usize, byte: u8, at: usize, text: &mut [u8]) -> usize
+fn say_if_changed(
+    rt: &impl Print,
+    letter: u8,
+    place: usize,
+    byte: u8,
+    at: usize,
+    text: &mut [u8],
+) -> usize
     requires at_in_bounds { at ≤ length text.old }
     requires in_bounds { 256 ≤ length text.old }
     ensures { result ≤ length text.new }
@@ -138,7 +153,8 @@ fn end_of_parts(buffer: &[u8], n: usize, bytes: usize) -> usize
 }
 
 // A line for each byte after the first n parts of a buffer, each of so many bytes, that is not the pattern any more.
-pub fn say_changed(rt: &impl Print, 
+pub fn say_changed(
+    rt: &impl Print,
     letter: u8,
     buffer: &[u8],
     n: usize,
@@ -161,14 +177,22 @@ pub fn say_changed(rt: &impl Print,
 }
 
 // The line of an order place of a file place.
-fn say_order(rt: &impl Print, file_place: usize, place: usize, o: Order, at: usize, text: &mut [u8]) -> usize
+fn say_order(
+    rt: &impl Print,
+    file_place: usize,
+    place: usize,
+    o: Order,
+    at: usize,
+    text: &mut [u8],
+) -> usize
     requires at_in_bounds { at ≤ length text.old }
     requires in_bounds { 256 ≤ length text.old }
     ensures { result ≤ length text.new }
 {
     let waited = o.waited;
     let pending = o.pending;
-    say(rt, 
+    say(
+        rt,
         b'o',
         &[
             file_place as u64,
@@ -190,7 +214,8 @@ fn say_order(rt: &impl Print, file_place: usize, place: usize, o: Order, at: usi
 }
 
 // The line of an order place of a file place with so many orders, if it is in use or not zero.
-fn say_order_place(rt: &impl Print, 
+fn say_order_place(
+    rt: &impl Print,
     file_place: usize,
     count: usize,
     place: usize,
@@ -214,7 +239,8 @@ fn say_file(rt: &impl Print, place: usize, f: File, at: usize, text: &mut [u8]) 
     requires in_bounds { 256 ≤ length text.old }
     ensures { result ≤ length text.new }
 {
-    let mut stop = say(rt, 
+    let mut stop = say(
+        rt,
         b'f',
         &[
             place as u64,
@@ -239,7 +265,14 @@ fn say_file(rt: &impl Print, place: usize, f: File, at: usize, text: &mut [u8]) 
 }
 
 // The lines of a file place of a book with so many files, if it is in use or not zero.
-fn say_file_place(rt: &impl Print, count: usize, place: usize, f: File, at: usize, text: &mut [u8]) -> usize
+fn say_file_place(
+    rt: &impl Print,
+    count: usize,
+    place: usize,
+    f: File,
+    at: usize,
+    text: &mut [u8],
+) -> usize
     requires at_in_bounds { at ≤ length text.old }
     requires in_bounds { 256 ≤ length text.old }
     ensures { result ≤ length text.new }
@@ -251,12 +284,20 @@ fn say_file_place(rt: &impl Print, count: usize, place: usize, f: File, at: usiz
 }
 
 // The book's line: T, the number of files, the four totals.
-fn say_head(rt: &impl Print, today: u16, count: usize, w: Waiting, at: usize, text: &mut [u8]) -> usize
+fn say_head(
+    rt: &impl Print,
+    today: u16,
+    count: usize,
+    w: Waiting,
+    at: usize,
+    text: &mut [u8],
+) -> usize
     requires at_in_bounds { at ≤ length text.old }
     requires in_bounds { 256 ≤ length text.old }
     ensures { result ≤ length text.new }
 {
-    say(rt, 
+    say(
+        rt,
         b'b',
         &[
             today as u64,

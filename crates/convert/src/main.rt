@@ -64,7 +64,14 @@ fn say_number(rt: &HostRuntime, n: usize, words: &[u8]) {
 }
 
 // Says why a tape was refused, and what to do.
-fn explain(rt: &HostRuntime, answer: Answer, bytes: usize, size: usize, room: usize, needed: usize) {
+fn explain(
+    rt: &HostRuntime,
+    answer: Answer,
+    bytes: usize,
+    size: usize,
+    room: usize,
+    needed: usize,
+) {
     say(rt, b"convert: ");
     let number = first_fittings::number_of(answer);
     say_number(rt, number as usize, b": ");

@@ -24,16 +24,38 @@ fn print(rt: &impl Print, place: u64, reply: Reply, buffer: &[u8], text: &mut [u
 {
     let answer = reply.answer;
     let number = premise_rows::number_of(answer);
-    let mut at = call_bytes::say(rt, b'c', &[place, number as u64, reply.sent as u64], 0, text);
+    let mut at = call_bytes::say(
+        rt,
+        b'c',
+        &[place, number as u64, reply.sent as u64],
+        0,
+        text,
+    );
     at = call_bytes::say_notices(rt, buffer, reply.sent, at, text);
-    at = call_bytes::say_changed(rt, b'x', buffer, reply.sent, records::RECORD_LENGTH, at, text);
+    at = call_bytes::say_changed(
+        rt,
+        b'x',
+        buffer,
+        reply.sent,
+        records::RECORD_LENGTH,
+        at,
+        text,
+    );
     let c = reply.book;
     at = call_bytes::say_book(rt, c, at, text);
     call_bytes::write_out(rt, at, text);
 }
 
 // Makes a call and prints its lines.
-fn make(rt: &impl Print, place: u64, b: Book, calendar: &[u8], bytes: &[u8], buffer: &mut [u8], text: &mut [u8])
+fn make(
+    rt: &impl Print,
+    place: u64,
+    b: Book,
+    calendar: &[u8],
+    bytes: &[u8],
+    buffer: &mut [u8],
+    text: &mut [u8],
+)
     requires { 256 ≤ length text.old }
 {
     call_bytes::fill(buffer);
@@ -42,7 +64,8 @@ fn make(rt: &impl Print, place: u64, b: Book, calendar: &[u8], bytes: &[u8], buf
 }
 
 // Reads the rest of a call on a book, makes it and prints its lines; whether another may follow.
-fn play_on(rt: &HostRuntime, 
+fn play_on(
+    rt: &HostRuntime,
     place: u64,
     b: Book,
     calendar: &mut [u8],
@@ -64,7 +87,8 @@ fn play_on(rt: &HostRuntime,
     if buffer.len() < room {
         return false;
     }
-    make(rt, 
+    make(
+        rt,
         place,
         b,
         &calendar[0..days],
@@ -76,7 +100,8 @@ fn play_on(rt: &HostRuntime,
 }
 
 // Reads one call to buffers, makes it and prints its lines; whether another may follow.
-fn play_by(rt: &HostRuntime, 
+fn play_by(
+    rt: &HostRuntime,
     place: u64,
     book: &mut [u8],
     calendar: &mut [u8],
@@ -101,7 +126,8 @@ fn play_one(rt: &HostRuntime, place: u64) -> bool {
     let mut bytes = [0u8; LONGEST_RECORD];
     let mut buffer = [0u8; LONGEST_BUFFER];
     let mut text = [0u8; call_bytes::TEXT_BYTES];
-    play_by(rt, 
+    play_by(
+        rt,
         place,
         &mut book,
         &mut calendar,

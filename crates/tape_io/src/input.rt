@@ -48,10 +48,7 @@ pub fn read_up_to<R: Read>(reader: &mut R, buffer: &mut [u8]) -> Got
 pub fn open<R: Files>(files: &R, path: &[u8]) -> io::Result<R::File> {
     match str::from_utf8(path) {
         Ok(name) => fs::open(files, name),
-        Err(_) => Err(io::Error::new(
-            ErrorKind::InvalidInput,
-            "the name is not UTF-8",
-        )),
+        Err(_) => Err(io::Error::new(ErrorKind::InvalidInput, "the name is not UTF-8")),
     }
 }
 

@@ -91,12 +91,7 @@ fn bytes_played(given: usize) -> usize
 
 // Plays the first bytes of a tape by the first of a calendar and writes its text to standard output, until a write fails. It asks nothing:
 // the buffers are its own, and a longer calendar or tape is cut here and not by who calls it.
-pub fn play_by(
-    rt: &impl Print,
-    by_calls: bool,
-    calendar: &[u8],
-    tape: &[u8],
-) -> io::Result<()> {
+pub fn play_by(rt: &impl Print, by_calls: bool, calendar: &[u8], tape: &[u8]) -> io::Result<()> {
     let mut answers = [0u8; STRETCH_RECORDS];
     let mut counts = [0u16; STRETCH_RECORDS];
     let mut notices = [0u8; STRETCH_NOTICES];

@@ -74,8 +74,12 @@ pub fn run(rt: &HostRuntime, by_calls: bool) {
     let days_read = days.count;
     let bytes_read = read.count;
     // a part is written `0..n`, so that the prover finds its length by itself
-    let written =
-        crate::playing::play_by(rt, by_calls, &calendar[0..days_read], &tape[0..bytes_read]);
+    let written = crate::playing::play_by(
+        rt,
+        by_calls,
+        &calendar[0..days_read],
+        &tape[0..bytes_read],
+    );
     if let Err(error) = written {
         complain(
             rt,

@@ -139,8 +139,9 @@ fn play_one(rt: &HostRuntime, place: u64) -> bool {
 
 // Plays calls to the end of the input.
 fn main(rt: HostRuntime) {
-    let mut place: u64 = 1;
-    while place < u64::MAX && play_one(&rt, place) {
-        place += 1;
+    for place in 1..u64::MAX {
+        if !play_one(&rt, place) {
+            return;
+        }
     }
 }

@@ -1,4 +1,4 @@
-use Rattle.std.proofs.Common.{rules, ◌≡◌, slice_index_or, false, true}
+use Rattle.std.proofs.Common.{rules}
 use Rattle.tape_io.specs.Advice.{begins_as_text}
 use Rattle.tape_io.proofs.program.begins_as_text.Goals as goal
 

@@ -8,7 +8,7 @@
 // and on standard error the answer's number and what to do.
 #![tactic(auto)]
 
-ghost use Rattle.std.specs.Prelude.{◌≡◌, ◌≤◌, length};
+ghost use Rattle.std.specs.Prelude.{◌≡◌, ◌≤◌, ◌↔◌, IsTrue, length};
 ghost use Rattle.convert.specs.Sizes.{most_in, most_out};
 
 use first_fittings_rules::{Answer, Conversion, OLD_LENGTH, OUR_LENGTH};
@@ -92,18 +92,10 @@ fn explain(
 }
 
 // Whether a word is the one that is looked for.
-fn is_word(word: &[u8], other: &[u8]) -> bool {
-    if word.len() != other.len() {
-        return false;
-    }
-    let mut i: usize = 0;
-    while i < word.len() {
-        if word[i] != other[i] {
-            return false;
-        }
-        i += 1;
-    }
-    true
+fn is_word(word: &[u8], other: &[u8]) -> bool
+    ensures { IsTrue result ↔ (word.now ≡ other.now) }
+{
+    word == other
 }
 
 // The room that a word of digits gives, up to the most that there is.

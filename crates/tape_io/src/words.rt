@@ -1,5 +1,5 @@
 // The words that a program was started with, its own name first.
-ghost use Rattle.std.specs.Prelude.{◌≤◌, length};
+ghost use Rattle.std.specs.Prelude.{◌≤◌, length, IfOk};
 
 use std::env::FillError;
 use std::io;
@@ -32,7 +32,9 @@ pub fn word(env: &impl Env, i: usize, buffer: &mut [u8]) -> usize
 }
 
 // Puts a word that names a file at the start of a buffer; how many bytes it has. A name that is too long is not cut: it is an error.
-pub fn file_name(env: &impl Env, i: usize, buffer: &mut [u8]) -> io::Result<usize> {
+pub fn file_name(env: &impl Env, i: usize, buffer: &mut [u8]) -> io::Result<usize>
+    ensures { IfOk result (λ n. n ≤ length buffer.new) }
+{
     match env.arg(i, buffer) {
         Ok(n) => Ok(n),
         Err(_) => Err(io::Error::from_raw_os_error(NAME_TOO_LONG)),

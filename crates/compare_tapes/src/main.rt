@@ -8,7 +8,7 @@
 // about its beginning would say nothing of the tape. What is wrong, and what to do, goes to standard error.
 #![tactic(auto)]
 
-ghost use Rattle.std.specs.Prelude.{◌≡◌, ◌++◌, ◌+◌, ◌≤◌, length, drop};
+ghost use Rattle.std.specs.Prelude.{◌≡◌, ◌++◌, ◌≤◌, length, drop, IfSome};
 ghost use Rattle.compare_tapes.specs.Sizes.{room_for_tape};
 
 use std::fs::File;
@@ -84,11 +84,7 @@ fn put_front(bytes: &[u8], buffer: &mut [u8])
     requires { length bytes.now ≤ length buffer.old }
     ensures { buffer.new ≡ bytes.now ++ drop (length bytes.now) buffer.old }
 {
-    let mut i: usize = 0;
-    while i < bytes.len() {
-        buffer[i] = bytes[i];
-        i += 1;
-    }
+    buffer[..bytes.len()].copy_from_slice(bytes);
 }
 
 // Reads on behind the bytes that stand at the front of a buffer; how many stand there then.

@@ -1,0 +1,7 @@
+-- `waiting_in` meets its contract: the book is the tape's, and what is put is the line of the totals that it keeps.
+use Rattle.waiting.proofs.Line.{shown_put}
+use Rattle.waiting.proofs.waiting_in.Goals as goal
+
+pub returns : goal.returns
+returns c =
+    shown_put _ _ _ c.played-b.ensures c.waiting_orders-shown.ensures c.put_waiting.ensures

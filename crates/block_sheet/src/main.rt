@@ -44,10 +44,15 @@ fn sheet_in(
     lines::put_sheet(number, rows, blocks.len() / row_bytes::ROW_BYTES, out)
 }
 
-// Says what can't be read, and why, and what to do.
+// Says on standard error what was not done, and what to do.
+fn advise(rt: &HostRuntime, advice: &[u8]) {
+    tape_io::say(rt, advice);
+}
+
+// Says what can't be read, and why.
 fn complain(rt: &HostRuntime, what: &[u8], error: io::Error, advice: &[u8]) {
     tape_io::fail(rt, what, error);
-    tape_io::say(rt, advice);
+    advise(rt, advice);
 }
 
 // Reads the rows of blocks from blocks.bin in the current folder.
@@ -123,14 +128,14 @@ fn main(rt: HostRuntime) {
     }
     let n = rows.count;
     if SHEET_BYTES < n {
-        tape_io::say(
+        advise(
             &rt,
             b"block_sheet: blocks.bin has more than 1,792 bytes; nothing was filled in; give at most 64 rows of 28 bytes\n",
         );
         return;
     }
     if n % row_bytes::ROW_BYTES != 0 {
-        tape_io::say(
+        advise(
             &rt,
             b"block_sheet: blocks.bin is no multiple of 28 bytes; nothing was filled in; make it of a sheet's text by sheettext\n",
         );

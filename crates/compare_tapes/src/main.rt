@@ -8,11 +8,12 @@
 // about its beginning would say nothing of the tape. What is wrong, and what to do, goes to standard error.
 #![tactic(auto)]
 
-ghost use Rattle.std.specs.Prelude.{◌≡◌, ◌++◌, ◌≤◌, length, drop, IfSome};
+ghost use Rattle.std.specs.Prelude.{◌≡◌, ◌++◌, ◌+◌, ◌≤◌, length, drop};
 ghost use Rattle.compare_tapes.specs.Sizes.{room_for_tape};
 
 use std::fs::File;
 use std::io;
+use std::io::ErrorKind;
 use tape_agreement_rules::Agreement;
 use tape_io::Got;
 
@@ -100,28 +101,28 @@ fn read_behind(tape: &mut File, done: usize, buffer: &mut [u8]) -> Got
     }
 }
 
-// The whole of a tape whose first bytes were read, in a room for the longest; none where something is wrong with it, which is said.
+// The whole of a tape whose first bytes were read, in a room for the longest; what is wrong with it is said.
 fn read_whole(
     rt: &HostRuntime,
     argument: usize,
     tape: &mut File,
     first: &[u8],
     room: &mut [u8],
-) -> Option<usize>
+) -> Got
     requires { length first.now ≤ length room.old }
-    ensures { IfSome result (λ count. count ≤ length room.new) }
+    ensures { result.count ≤ length room.new }
 {
     put_front(first, room);
     let got = read_behind(tape, first.len(), room);
     if let Some(error) = got.failed {
         complain(rt, argument, error);
-        return None;
+        return got;
     }
     if TAPE_BYTES < got.count {
         complain_of_length(rt, argument);
-        return None;
+        return tape_io::failed_with(io::Error::from(ErrorKind::FileTooLarge));
     }
-    Some(got.count)
+    got
 }
 
 // Prints the answer's line.
@@ -158,14 +159,20 @@ fn compare_long(
 {
     let mut room = room_for_tape();
     if next == OURS {
-        if let Some(m) = read_whole(rt, OURS, our_tape, ours, &mut room) {
-            compare_long(rt, THEIRS, our_tape, &room[0..m], their_tape, theirs);
+        let got = read_whole(rt, OURS, our_tape, ours, &mut room);
+        if got.failed.is_some() {
+            return;
         }
+        let m = got.count;
+        compare_long(rt, THEIRS, our_tape, &room[0..m], their_tape, theirs);
         return;
     }
-    if let Some(n) = read_whole(rt, THEIRS, their_tape, theirs, &mut room) {
-        answer(rt, ours, &room[0..n]);
+    let got = read_whole(rt, THEIRS, their_tape, theirs, &mut room);
+    if got.failed.is_some() {
+        return;
     }
+    let n = got.count;
+    answer(rt, ours, &room[0..n]);
 }
 
 // The same by way of a short room, as far as both tapes end in it.

@@ -24,10 +24,15 @@ const FIRST_TEXT: usize = 2;
 // The room for lines, which are written many at once.
 const OUT_BYTES: usize = 65_536;
 
+// Says on standard error what was not done, and what to do.
+fn advise(rt: &HostRuntime, advice: &[u8]) {
+    tape_io::say(rt, advice);
+}
+
 // Says which file can't be read, and why.
 fn complain(rt: &HostRuntime, path: &[u8], error: io::Error) {
     tape_io::fail(rt, path, error);
-    tape_io::say(
+    advise(
         rt,
         b"esi: nothing was looked up; give a directory that can be read, as in: esi DIRECTORY TEXT..\n",
     );
@@ -118,7 +123,7 @@ fn answer_all(rt: &(impl Env + Print), directory: &[u8], count: usize) -> io::Re
 fn main(rt: HostRuntime) {
     let count = tape_io::count_words(&rt);
     if count < FIRST_TEXT {
-        tape_io::say(
+        advise(
             &rt,
             b"esi: give a directory of ESI IDs and the texts to look up, as in: esi DIRECTORY TEXT..\n",
         );
@@ -131,7 +136,7 @@ fn main(rt: HostRuntime) {
     }
     let n = got.count;
     if DIRECTORY_BYTES < n {
-        tape_io::say(
+        advise(
             &rt,
             b"esi: the directory has more than 65,520 bytes; nothing was looked up; give one of at most 2,730 records\n",
         );
@@ -139,7 +144,7 @@ fn main(rt: HostRuntime) {
     }
     if let Err(error) = answer_all(&rt, &directory[0..n], count) {
         tape_io::fail(&rt, b"esi: cannot write to standard output", error);
-        tape_io::say(
+        advise(
             &rt,
             b"esi: the output is not whole; make room or give another place, and look up again\n",
         );

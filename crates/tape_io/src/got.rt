@@ -1,5 +1,5 @@
 // What came of a reading.
-ghost use Rattle.std.specs.Prelude.{◌≡◌};
+ghost use Rattle.std.specs.Prelude.{◌≡◌, Some};
 
 use std::io;
 
@@ -12,7 +12,8 @@ pub struct Got {
 
 // Nothing was read, and why.
 pub fn failed_with(error: io::Error) -> Got
-    ensures { result.count ≡ 0 }
+    ensures count { result.count ≡ 0 }
+    ensures failed { result.failed ≡ Some error }
 {
     Got {
         count: 0,

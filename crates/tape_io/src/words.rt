@@ -8,8 +8,10 @@ use std::rt::Env;
 // The room for a word: any path has fewer bytes.
 pub const WORD_BYTES: usize = 4_096;
 
-// The system's number for a name that is too long.
+// The system's numbers for a name that is too long, and for a word that there is not.
 const NAME_TOO_LONG: i32 = 36;
+
+const INVALID_ARGUMENT: i32 = 22;
 
 // How many words there are.
 pub fn count_words(env: &impl Env) -> usize {
@@ -37,6 +39,7 @@ pub fn file_name(env: &impl Env, i: usize, buffer: &mut [u8]) -> io::Result<usiz
 {
     match env.arg(i, buffer) {
         Ok(n) => Ok(n),
+        Err(FillError::NotPresent) => Err(io::Error::from_raw_os_error(INVALID_ARGUMENT)),
         Err(_) => Err(io::Error::from_raw_os_error(NAME_TOO_LONG)),
     }
 }

@@ -7,8 +7,7 @@ use Rattle.tape_text.specs.Numbers.{Puts}
 use Rattle.tape_text.proofs.Puts.{puts_as}
 use Rattle.book.specs.declared.Book.{Book}
 use Rattle.sheet_rules.specs.declared.BlockRow.{BlockRow}
-use Rattle.sheet_rules.specs.declared.SheetAnswer.{SheetAnswer}
-use Rattle.sheet_rules.specs.Sheet.{number, sheet_answer, rows_after, Fills}
+use Rattle.sheet_rules.specs.Sheet.{SheetAnswer, number, sheet_answer, rows_after, Fills}
 use Rattle.sheet_rules.proofs.Spare.{spare_rows_hidden}
 use Rattle.block_sheet.specs.RowBytes.{most_rows, padded}
 use Rattle.block_sheet.specs.Lines.{sheet_text}

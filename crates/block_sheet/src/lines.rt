@@ -1,5 +1,5 @@
 // The lines of a sheet as bytes: the answer, and then a line for each row.
-ghost use Rattle.std.specs.Prelude.{◌+◌, ◌≤◌, length, take};
+ghost use Rattle.std.specs.Prelude.{◌+◌, ◌≤◌, length};
 ghost use Rattle.tape_text.specs.Numbers.{Puts};
 ghost use Rattle.block_sheet.specs.RowBytes.{most_rows};
 ghost use Rattle.block_sheet.specs.Lines.{row_line, row_lines, sheet_text, sheet_text_most};
@@ -12,9 +12,10 @@ const BLOCK: u8 = b'b';
 const NEWLINE: u8 = b'\n';
 
 // The line of a row: block, first and last premise, files, dark ones.
-fn put_row(row: BlockRow, start: usize, out: &mut [u8]) -> usize
-    requires { start + length (row_line row) ≤ length out.old }
-    ensures { Puts start out.old out.new result (row_line row) }
+#[tactic(auto, unfolding(crate::specs::Lines::row_line))]
+fn put_row(row: &BlockRow, start: usize, out: &mut [u8]) -> usize
+    requires { start + length (row_line row.now) ≤ length out.old }
+    ensures { Puts start out.old out.new result (row_line row.now) }
 {
     let numbers = [
         row.block as u64,
@@ -26,29 +27,25 @@ fn put_row(row: BlockRow, start: usize, out: &mut [u8]) -> usize
     tape_text::put_lettered(BLOCK, &numbers, start, out)
 }
 
-// The lines of the first rows.
-fn put_rows(rows: [BlockRow; 64], count: usize, start: usize, out: &mut [u8]) -> usize
-    requires count_le_most_rows { count ≤ most_rows }
-    requires rows_in_bounds { start + length (row_lines (take count rows)) ≤ length out.old }
-    ensures { Puts start out.old out.new result (row_lines (take count rows)) }
+// The lines of the rows.
+fn put_rows(rows: &[BlockRow], start: usize, out: &mut [u8]) -> usize
+    requires { start + length (row_lines rows.now) ≤ length out.old }
+    ensures { Puts start out.old out.new result (row_lines rows.now) }
 {
     let mut at = start;
-    let mut i: usize = 0;
-    while i < count {
-        let row = rows[i];
+    for row in rows {
         at = put_row(row, at, out);
-        i += 1;
     }
     at
 }
 
-// The answer, and the lines of the first rows.
-pub fn put_sheet(answer: u8, rows: [BlockRow; 64], count: usize, out: &mut [u8]) -> usize
-    requires count_le_most_rows { count ≤ most_rows }
+// The answer, and the lines of the rows.
+pub fn put_sheet(answer: u8, rows: &[BlockRow], out: &mut [u8]) -> usize
+    requires rows_le_most_rows { length rows.now ≤ most_rows }
     requires sheet_text_most_in_bounds { sheet_text_most ≤ length out.old }
-    ensures { Puts 0 out.old out.new result (sheet_text answer (take count rows)) }
+    ensures { Puts 0 out.old out.new result (sheet_text answer rows.now) }
 {
     let stop = tape_text::put_number(answer as u64, 0, out);
     out[stop] = NEWLINE;
-    put_rows(rows, count, stop + 1, out)
+    put_rows(rows, stop + 1, out)
 }

@@ -5,7 +5,7 @@
 mod lines;
 mod row_bytes;
 
-ghost use Rattle.std.specs.Prelude.{◌*◌, ◌≤◌, length};
+ghost use Rattle.std.specs.Prelude.{◌*◌, ◌≤◌, length, IfOk};
 ghost use Rattle.book.specs.Calls.{notice_bytes};
 ghost use Rattle.tape_text.specs.Numbers.{Puts};
 ghost use Rattle.block_sheet.specs.RowBytes.{row_length, most_rows};
@@ -14,7 +14,6 @@ ghost use Rattle.block_sheet.specs.Output.{sheet_output};
 
 use std::io;
 use std::rt::Files;
-use tape_io::Got;
 
 // The most bytes of a sheet, and of its text.
 const SHEET_BYTES: usize = 1_792;
@@ -36,33 +35,24 @@ fn sheet_in(
         (sheet_output calendar.now tape.now blocks.now) }
 {
     let b = tape_book::played(calendar, tape, notices);
-    let given = row_bytes::rows_of(blocks);
-    let after = sheet_calls::filled_sheet(b, given);
-    let answer = after.answer;
-    let number = sheet_calls::number_of(answer);
-    let rows = after.rows;
-    lines::put_sheet(number, rows, blocks.len() / row_bytes::ROW_BYTES, out)
+    let after = sheet_calls::filled_sheet(b, row_bytes::rows_of(blocks));
+    let number = sheet_calls::number_of(after.answer);
+    lines::put_sheet(
+        number,
+        &after.rows[..blocks.len() / row_bytes::ROW_BYTES],
+        out,
+    )
 }
 
-// Says on standard error what was not done, and what to do.
-fn advise(rt: &HostRuntime, advice: &[u8]) {
-    tape_io::say(rt, advice);
-}
+// The program's name, for what it says on standard error.
+const NAME: [u8; 11] = *b"block_sheet";
 
-// Says what can't be read, and why.
-fn complain(rt: &HostRuntime, what: &[u8], error: io::Error, advice: &[u8]) {
-    tape_io::fail(rt, what, error);
-    advise(rt, advice);
-}
-
-// Reads the rows of blocks from blocks.bin in the current folder.
-fn read_blocks(files: &impl Files, buffer: &mut [u8]) -> Got
-    ensures { result.count ≤ length buffer.new }
+// Reads the rows of blocks from blocks.bin in the current folder; how many bytes came.
+fn read_blocks(files: &impl Files, buffer: &mut [u8]) -> io::Result<usize>
+    ensures { IfOk result (λ n. n ≤ length buffer.new) }
 {
-    match tape_io::open(files, b"blocks.bin") {
-        Ok(mut file) => tape_io::read_up_to(&mut file, buffer),
-        Err(error) => tape_io::failed_with(error),
-    }
+    let mut file = tape_io::open(files, b"blocks.bin")?;
+    Ok(tape_io::fill(&mut file, buffer)?)
 }
 
 // The sheet in buffers of its own, written to standard output.
@@ -79,63 +69,44 @@ fn print_sheet(rt: &impl Print, calendar: &[u8], tape: &[u8], blocks: &[u8]) -> 
 fn fill_in(rt: &HostRuntime, blocks: &[u8])
     requires { length blocks.now ≤ row_length * most_rows }
 {
-    let mut calendar = [0u8; tape_io::CALENDAR_BYTES];
-    let days = tape_io::read_file(rt, b"calendar.bin", &mut calendar);
-    if let Some(error) = days.failed {
-        complain(
-            rt,
-            b"block_sheet: cannot read calendar.bin in the current folder",
-            error,
-            b"block_sheet: nothing was played; make it a readable file, or remove it to play with an empty calendar\n",
-        );
-        return;
-    }
-    let mut tape = [0u8; tape_io::TAPE_BYTES];
-    let read = tape_io::read_up_to(&mut rt.stdin(), &mut tape);
-    if let Some(error) = read.failed {
-        complain(
-            rt,
-            b"block_sheet: cannot read the tape from standard input",
-            error,
-            b"block_sheet: nothing was played; give a readable file or pipe, as in: block_sheet < TAPE\n",
-        );
-        return;
-    }
-    let days_read = days.count;
-    let bytes_read = read.count;
-    if let Err(error) = print_sheet(rt, &calendar[0..days_read], &tape[0..bytes_read], blocks) {
-        complain(
-            rt,
-            b"block_sheet: cannot write to standard output",
-            error,
-            b"block_sheet: the output is not whole; make room or give another place, and fill the sheet in again\n",
-        );
-    }
+    tape_io::with_tape(rt, &NAME, |calendar, tape| {
+        if let Err(error) = print_sheet(rt, calendar, tape, blocks) {
+            tape_io::complain(
+                rt,
+                &NAME,
+                b": cannot write to standard output",
+                error,
+                b": the output is not whole; make room or give another place, and fill the sheet in again\n",
+            );
+        }
+    });
 }
 
 // Reads the rows, and fills them in; one byte more than they may have shows that they are too many.
 fn main(rt: HostRuntime) {
     let mut blocks = [0u8; SHEET_BYTES + 1];
-    let rows = read_blocks(&rt, &mut blocks);
-    if let Some(error) = rows.failed {
-        complain(
-            &rt,
-            b"block_sheet: cannot read blocks.bin in the current folder",
-            error,
-            b"block_sheet: nothing was filled in; make it of a sheet's text by sheettext\n",
-        );
-        return;
-    }
-    let n = rows.count;
+    let n = match read_blocks(&rt, &mut blocks) {
+        Ok(n) => n,
+        Err(error) => {
+            tape_io::complain(
+                &rt,
+                &NAME,
+                b": cannot read blocks.bin in the current folder",
+                error,
+                b": nothing was filled in; make it of a sheet's text by sheettext\n",
+            );
+            return;
+        }
+    };
     if SHEET_BYTES < n {
-        advise(
+        tape_io::say(
             &rt,
             b"block_sheet: blocks.bin has more than 1,792 bytes; nothing was filled in; give at most 64 rows of 28 bytes\n",
         );
         return;
     }
     if n % row_bytes::ROW_BYTES != 0 {
-        advise(
+        tape_io::say(
             &rt,
             b"block_sheet: blocks.bin is no multiple of 28 bytes; nothing was filled in; make it of a sheet's text by sheettext\n",
         );

@@ -6,12 +6,12 @@ use mathlib.Core.List.{List, []}
 use mathlib.Core.Bool.{Bool, true, false, cond}
 use lib.ListN.{length}
 use Rattle.records.specs.declared.Record.{Record}
-use Rattle.records.specs.declared.Reading.{Reading}
-use Rattle.records.specs.declared.Reading.TheVariants.{Says}
+use Rattle.std.specs.Prelude.{Option, Some}
 use Rattle.records.specs.Records.{reading, kind_day_mark}
 use Rattle.records.proofs.Readings.{says}
-use Rattle.premise.specs.declared.Answer.{Answer}
-use Rattle.premise.specs.declared.Answer.TheVariants.{BookFull}
+use Rattle.std.specs.Prelude.{Err}
+use Rattle.premise.specs.Refusals.{Answer}
+use Rattle.premise.specs.declared.Refusal.TheVariants.{BookFull}
 use Rattle.premise.specs.Steps.{is}
 use Rattle.premise.specs.Refusals.{first_row}
 use Rattle.premise.specs.OnePremise.{step, refused}
@@ -25,16 +25,16 @@ use Rattle.book.proofs.Row6.{first_full}
 use Rattle.book.proofs.Acts.{acted, call_acts, decided, refuses, put_back}
 
 module _ (calendar : List ℕ) (b : Book) (bytes lent : List ℕ) (r : Record) (k : BookKept b) (room : notice_bytes ≤ length lent)
-    (e : reading bytes ≡ Says r) where
-  pub call_full : meets_row6 b (Says r) ≡ true → call calendar b bytes lent ≡ refusal BookFull b
+    (e : reading bytes ≡ Some r) where
+  pub call_full : meets_row6 b (Some r) ≡ true → call calendar b bytes lent ≡ refusal (Err BookFull) b
   unfolding call_by
   call_full full =
       ap (λ (first : Answer). decided calendar b first (reading bytes))
-      (record_decides calendar b bytes lent room ((book_kept_means b).1 k) ∙ ap (λ (d : Reading). first_row (record_rows calendar b d)) e
+      (record_decides calendar b bytes lent room ((book_kept_means b).1 k) ∙ ap (λ (d : Option Record). first_row (record_rows calendar b d)) e
       ∙ first_full calendar b r full)
-      ∙ refuses calendar b BookFull (reading bytes) (refusing BookFull refl)
+      ∙ refuses calendar b (Err BookFull) (reading bytes) (refusing BookFull)
 
-  module _ (other : is kind_day_mark r ≡ false) (places : meets_row6 b (Says r) ≡ false) where
+  module _ (other : is kind_day_mark r ≡ false) (places : meets_row6 b (Some r) ≡ false) where
     pub call_one : call calendar b bytes lent ≡ as_one calendar b r
     call_one = call_acts calendar b bytes lent k room (ap (meets_row6 b) e ∙ places) ∙ ap (acted calendar b) e
         ∙ ap (λ (a : Bool). cond a (on_day_mark calendar b r) (as_one calendar b r)) other

@@ -7,10 +7,10 @@ use lib.Dec.{eqb}
 use borrow.Author.Tests.{eqb-true, ne_eqb}
 use Rattle.lists.specs.Search.{any_of}
 use Rattle.lists.proofs.TestLaws.{by_test}
-use Rattle.records.specs.declared.Reading.{Reading}
-use Rattle.records.specs.declared.Reading.TheVariants.{Malformed, Says}
+use Rattle.std.specs.Prelude.{Option, Some, None}
+use Rattle.records.specs.declared.Record.{Record}
 use Rattle.records.specs.Records.{reading, kind_day_mark}
-use Rattle.premise.specs.declared.Answer.TheVariants.{Accepted}
+use Rattle.std.specs.Prelude.{Ok}
 use Rattle.premise.specs.Steps.{is}
 use Rattle.premise.specs.Refusals.{first_row, number}
 use Rattle.premise.proofs.Table.{accepted_is_zero}
@@ -20,9 +20,9 @@ use Rattle.book.specs.Calls.{record_rows, call_rows, Result, on_premise, on_read
 use Rattle.book.proofs.Rows.{passed, not_malformed}
 
 module _ (calendar : List ℕ) (b : Book) (bytes lent : List ℕ) where
-  accepts : (d : Reading) → any_of holds (record_rows calendar b d) ≡ false → (on_reading calendar b d).answer ≡ Accepted
-  accepts Malformed n = absurd (not_malformed calendar b n)
-  accepts (Says r) n = by_test (λ (x : Result). x.answer ≡ Accepted) (is kind_day_mark r) (marked_book calendar b r.day)
+  accepts : (d : Option Record) → any_of holds (record_rows calendar b d) ≡ false → (on_reading calendar b d).answer ≡ Ok tt
+  accepts None n = absurd (not_malformed calendar b n)
+  accepts (Some r) n = by_test (λ (x : Result). x.answer ≡ Ok tt) (is kind_day_mark r) (marked_book calendar b r.day)
       (on_premise calendar b r) (λ t. refl) (λ t. refl)
 
   pub call_answer : (call calendar b bytes lent).answer ≡ first_row (call_rows calendar b bytes lent)

@@ -13,7 +13,8 @@ use Rattle.lists.proofs.Find.{drop-none}
 use Rattle.records.specs.declared.Notice.{Notice}
 use Rattle.records.specs.Layout.{Bytes, record_length}
 use Rattle.records.proofs.Fields.{bytes_drop, bytes_take}
-use Rattle.premise.specs.declared.Answer.TheVariants.{NotWellKept}
+use Rattle.std.specs.Prelude.{Err}
+use Rattle.premise.specs.declared.Refusal.TheVariants.{NotWellKept}
 use Rattle.book.specs.declared.Book.{Book}
 use Rattle.book.specs.Book.{book_kept}
 use Rattle.book.specs.Calls.{notice_bytes, Result, refusal, call}
@@ -111,7 +112,7 @@ called_lent calendar b bytes lent room =
     (le-ltb (length lent) notice_bytes room ∙ sym (le-ltb (length {A = ℕ} (replicate notice_bytes 0)) notice_bytes called_room))
 
 -- a book that is not well kept gets 2
-pub called_unkept : (calendar : List ℕ) (b : Book) (bytes : List ℕ) → book_kept b ≡ false → called calendar b bytes ≡ refusal NotWellKept b
+pub called_unkept : (calendar : List ℕ) (b : Book) (bytes : List ℕ) → book_kept b ≡ false → called calendar b bytes ≡ refusal (Err NotWellKept) b
 called_unkept calendar b bytes damaged = call_not_kept calendar b bytes (replicate notice_bytes 0) called_room damaged
 
 pub called_few : (calendar : List ℕ) (b : Book) (bytes : List ℕ) → record_length * length (called calendar b bytes).notices ≤ notice_bytes
@@ -261,12 +262,12 @@ module _ (calendar : List ℕ) where
   -- ---- every record on a book that is not well kept gets 2, and leaves it as it was
   pub row_unkept : (free : ℕ) (b : Book) (records : List (List ℕ)) → book_kept b ≡ false → notice_bytes ≤ free
       → calls_in_row calendar free b records
-      ≡ record { results = replicate (length records) (refusal NotWellKept b); book = b; left = [] }
+      ≡ record { results = replicate (length records) (refusal (Err NotWellKept) b); book = b; left = [] }
   row_unkept free b [] damaged room = row_none calendar free b
   row_unkept free b (bytes ∷ rest) damaged room =
       let all : free - record_length * 0 ≡ free = omega arith in
       row_next calendar free b bytes rest room
       ∙ ap (λ (x : Result). and_then x (calls_in_row calendar (free - record_length * length x.notices) x.book rest))
       (called_unkept calendar b bytes damaged)
-      ∙ ap (λ (n : ℕ). and_then (refusal NotWellKept b) (calls_in_row calendar n b rest)) all
-      ∙ ap (and_then (refusal NotWellKept b)) (row_unkept free b rest damaged room)
+      ∙ ap (λ (n : ℕ). and_then (refusal (Err NotWellKept) b) (calls_in_row calendar n b rest)) all
+      ∙ ap (and_then (refusal (Err NotWellKept) b)) (row_unkept free b rest damaged room)

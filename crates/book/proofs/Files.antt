@@ -2,7 +2,7 @@
 use Prim.Native.Nat.{ℕ, ◌≤◌, ◌<◌}
 use mathlib.Core.Path.{◌≡◌, refl}
 use mathlib.Core.List.{List, [], ◌∷◌}
-use mathlib.Core.Option.{Option, none, some}
+use Rattle.std.specs.Prelude.{Option, Some, None}
 use mathlib.Core.Bool.{Bool, true, false, cond}
 use native.Mathlib.Omega.{arith}
 use lib.Dec.{eqb, ltb}
@@ -37,13 +37,13 @@ weaken m n (g ∷ gs) h r = (omega arith, r.1)
 
 -- ---- found
 -- a number at or below the one from which a list rises finds nothing
-pub found_below : (premise n : ℕ) (gs : List File) → premise ≤ n → Rising n gs → file_for premise gs ≡ none
+pub found_below : (premise n : ℕ) (gs : List File) → premise ≤ n → Rising n gs → file_for premise gs ≡ None
 unfolding file_for
 found_below premise n [] h r = refl
 found_below premise n (g ∷ gs) h r =
     rw (ne_eqb g.premise premise (omega arith)) (found_below premise g.premise gs (omega arith) r.1)
 
-pub found_head : (premise : ℕ) (g : File) (gs : List File) → g.premise ≡ premise → file_for premise (g ∷ gs) ≡ some g
+pub found_head : (premise : ℕ) (g : File) (gs : List File) → g.premise ≡ premise → file_for premise (g ∷ gs) ≡ Some g
 unfolding file_for
 found_head premise g gs e = rw (eq-eqb g.premise premise e)
 
@@ -59,7 +59,7 @@ found_has Has premise [] u = tt
 found_has Has premise (g ∷ gs) u = go (eqb g.premise premise) refl (found_has Has premise gs u.1)
   where
     go : (a : Bool) → eqb g.premise premise ≡ a → Held (λ f. (f.premise ≡ premise) × Has f) (file_for premise gs)
-        → Held (λ f. (f.premise ≡ premise) × Has f) (cond a (some g) (file_for premise gs))
+        → Held (λ f. (f.premise ≡ premise) × Has f) (cond a (Some g) (file_for premise gs))
     go true t ih = (eqb-true g.premise premise t, u.0)
     go false t ih = ih
 
@@ -68,5 +68,5 @@ pub found_each : (Has : File → Type 0) (premise : ℕ) (gs : List File) → Ea
 found_each Has premise gs u = go (file_for premise gs) (found_has Has premise gs u)
   where
     go : (file : Option File) → Held (λ f. (f.premise ≡ premise) × Has f) file → Held Has file
-    go none h = tt
-    go (some f) h = h.1
+    go None h = tt
+    go (Some f) h = h.1

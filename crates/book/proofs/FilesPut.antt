@@ -2,7 +2,7 @@
 use Prim.Native.Nat.{ℕ, zero, suc, ◌≤◌, ◌<◌}
 use mathlib.Core.Path.{◌≡◌, refl, ap, sym, ◌∙◌}
 use mathlib.Core.List.{List, [], ◌∷◌}
-use mathlib.Core.Option.{some}
+use Rattle.std.specs.Prelude.{Some}
 use mathlib.Core.Bool.{Bool, true, false}
 use native.Mathlib.Omega.{arith}
 use lib.Dec.{eqb, ltb}
@@ -38,11 +38,11 @@ module _ (f g : File) (gs : List File) where
           let h : g.premise < f.premise = omega (arith, ltb-false f.premise g.premise s, eqb-false f.premise g.premise t) in
           rw (put_after h) (after h)
 
-pub put_found : (f : File) (gs : List File) → file_for f.premise (put_in f gs) ≡ some f
+pub put_found : (f : File) (gs : List File) → file_for f.premise (put_in f gs) ≡ Some f
 unfolding put_in
 put_found f [] = found_head f.premise f [] refl
 put_found f (g ∷ gs) =
-    by_place f g gs (λ l. file_for f.premise l ≡ some f)
+    by_place f g gs (λ l. file_for f.premise l ≡ Some f)
     (λ h. found_head f.premise f (g ∷ gs) refl)
     (λ h. found_head f.premise f gs refl)
     (λ h. found_tail f.premise g (put_in f gs) (omega arith) ∙ put_found f gs)
@@ -82,7 +82,7 @@ put_length f (g ∷ gs) =
     by_place f g gs (λ l. length l ≤ suc (length (g ∷ gs))) (λ k. omega arith) (λ k. omega arith) (λ k. omega (arith, put_length f gs))
 
 -- where the number is found, the new file takes the old one's place
-pub put_held : (n : ℕ) (f h : File) (gs : List File) → Rising n gs → file_for f.premise gs ≡ some h → length (put_in f gs) ≡ length gs
+pub put_held : (n : ℕ) (f h : File) (gs : List File) → Rising n gs → file_for f.premise gs ≡ Some h → length (put_in f gs) ≡ length gs
 unfolding put_in file_for
 put_held n f h [] r e = let z : ◌≡◌ {A = ℕ} 0 1 = cc in absurd (omega arith)
 put_held n f h (g ∷ gs) r e =
@@ -101,7 +101,7 @@ module _ (d : File) where
   rising_at n (g ∷ gs) r (suc i) h = omega (arith, r.0, rising_at g.premise gs r.1 i (omega arith))
 
   pub found_at : (premise n : ℕ) (gs : List File) → Rising n gs → (i : ℕ) → i < length gs → (get_or gs i d).premise ≡ premise
-      → file_for premise gs ≡ some (get_or gs i d)
+      → file_for premise gs ≡ Some (get_or gs i d)
   found_at premise n [] r i h e = absurd (omega arith)
   found_at premise n (g ∷ gs) r zero h e = found_head premise g gs e
   found_at premise n (g ∷ gs) r (suc i) h e =

@@ -2,7 +2,7 @@
 use Prim.Native.Nat.{ℕ, ◌≤◌}
 use mathlib.Core.Path.{◌≡◌, refl, sym, ◌∙◌}
 use mathlib.Core.List.{List, [], ◌∷◌}
-use mathlib.Core.Option.{none}
+use Rattle.std.specs.Prelude.{None}
 use mathlib.Core.Bool.{Bool, true, false, cond}
 use native.Mathlib.Omega.{arith}
 use lib.Dec.{eqb}
@@ -23,11 +23,11 @@ module _ (premise : ℕ) (g : File) (gs : List File) where
       go true t = same (eqb-true g.premise premise t)
       go false t = other (eqb-false g.premise premise t)
 
-pub taken_found : (premise n : ℕ) (gs : List File) → Rising n gs → file_for premise (taken_out premise gs) ≡ none
+pub taken_found : (premise n : ℕ) (gs : List File) → Rising n gs → file_for premise (taken_out premise gs) ≡ None
 unfolding taken_out file_for
 taken_found premise n [] r = refl
 taken_found premise n (g ∷ gs) r =
-    by_number premise g gs (λ l. file_for premise l ≡ none)
+    by_number premise g gs (λ l. file_for premise l ≡ None)
     (λ e. found_below premise g.premise gs (omega arith) r.1)
     (λ e. found_tail premise g (taken_out premise gs) e ∙ taken_found premise g.premise gs r.1)
 

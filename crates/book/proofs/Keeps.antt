@@ -2,7 +2,7 @@
 use Prim.Native.Nat.{ℕ, ◌≤◌, ◌<◌}
 use mathlib.Core.Path.{◌≡◌, refl}
 use mathlib.Core.List.{List, []}
-use mathlib.Core.Option.{Option, none, some}
+use Rattle.std.specs.Prelude.{Option, Some, None}
 use mathlib.Core.Bool.{Bool, true, false, ◌&&◌}
 use native.Mathlib.Omega.{arith}
 use lib.Dec.{eqb}
@@ -12,8 +12,6 @@ use Rattle.lists.specs.Search.{any_of}
 use Rattle.lists.proofs.TestLaws.{by_test, and_other}
 use Rattle.days.specs.Days.{last_day}
 use Rattle.records.specs.declared.Record.{Record}
-use Rattle.records.specs.declared.Reading.{Reading}
-use Rattle.records.specs.declared.Reading.TheVariants.{Malformed, Says}
 use Rattle.records.specs.Records.{reading, kind_create, kind_day_mark, well_formed}
 use Rattle.records.proofs.Formed.{formed}
 use Rattle.records.proofs.Readings.{says}
@@ -45,12 +43,12 @@ has_premise r w e =
 
 -- of a file or none
 pub numbers : (premise : ℕ) (file : Option File) → Held (KeptFor premise) file → Numbered premise file
-numbers premise none h = tt
-numbers premise (some f) h = h.number
+numbers premise None h = tt
+numbers premise (Some f) h = h.number
 
 pub kept_ones : (premise : ℕ) (file : Option File) → Held (KeptFor premise) file → Held FileKept file
-kept_ones premise none h = tt
-kept_ones premise (some f) h = h.kept
+kept_ones premise None h = tt
+kept_ones premise (Some f) h = h.kept
 
 module _ (b : Book) (k : BookKept b) where
   -- the file that a book has for a premise
@@ -58,8 +56,8 @@ module _ (b : Book) (k : BookKept b) where
   found_kept premise = go (file_for premise (files_of b)) (found_has FileKept premise (files_of b) k.files)
     where
       go : (file : Option File) → Held (λ f. (f.premise ≡ premise) × FileKept f) file → Held (KeptFor premise) file
-      go none h = tt
-      go (some f) h = record { number = h.0; kept = h.1 }
+      go None h = tt
+      go (Some f) h = record { number = h.0; kept = h.1 }
 
   few : length (files_of b) ≤ most_files
   few = omega (arith, k.tidy.few, count_is b k.tidy)
@@ -82,17 +80,17 @@ module _ (b : Book) (k : BookKept b) where
     fits : (is kind_create r && eqb (length (files_of b)) most_files) ≡ false → (file : Option File)
         → (step calendar (premise_state b r.premise) r).state.file ≡ file
         → Numbered r.premise file → length (with_file r.premise file (files_of b)) ≤ most_files
-    fits full none e n = omega (arith, few, taken-length r.premise (files_of b))
-    fits full (some g) e n = go (file_for r.premise (files_of b)) (is kind_create r) refl refl
+    fits full None e n = omega (arith, few, taken-length r.premise (files_of b))
+    fits full (Some g) e n = go (file_for r.premise (files_of b)) (is kind_create r) refl refl
       where
         go : (file : Option File) (creates : Bool) → file_for r.premise (files_of b) ≡ file → is kind_create r ≡ creates
             → length (put_in g (files_of b)) ≤ most_files
-        go (some h) creates q c = omega (arith, few, put_held 0 g h (files_of b) (rises_rising 0 (files_of b) k.rising) (rw n q))
-        go none true q c =
+        go (Some h) creates q c = omega (arith, few, put_held 0 g h (files_of b) (rises_rising 0 (files_of b) k.rising) (rw n q))
+        go None true q c =
             let t = and_other (is kind_create r) (eqb (length (files_of b)) most_files) full c in
             omega (arith, few, put_length g (files_of b), eqb-false (length (files_of b)) most_files t)
-        go none false q c =
-            let s : (step calendar (record { today = b.today; file = none }) r).state.file ≡ some g = rw q at e in
+        go None false q c =
+            let s : (step calendar (record { today = b.today; file = None }) r).state.file ≡ Some g = rw q at e in
             let m = only_create_makes calendar b.today r c in
             let z : ◌≡◌ {A = ℕ} 0 1 = cc in absurd (omega arith)
 
@@ -121,10 +119,10 @@ by_call P calendar b bytes lent refused mark other =
     (λ t. let p = passed calendar b bytes lent (eqb-true _ 0 t) in go p (reading bytes) refl p.none)
     (λ t. refused)
   where
-    go : FileAfter calendar b bytes lent → (d : Reading) → reading bytes ≡ d → any_of holds (record_rows calendar b d) ≡ false
+    go : FileAfter calendar b bytes lent → (d : Option Record) → reading bytes ≡ d → any_of holds (record_rows calendar b d) ≡ false
         → P (on_reading calendar b d)
-    go p Malformed e n = absurd (not_malformed calendar b n)
-    go p (Says r) e n =
+    go p None e n = absurd (not_malformed calendar b n)
+    go p (Some r) e n =
         let w = (says bytes r e).formed in
         by_test P (is kind_day_mark r) (marked_book calendar b r.day) (on_premise calendar b r) (λ t. mark r p w t)
         (λ t. other r p w t (not_full calendar b r n))

@@ -3,7 +3,7 @@
 use Prim.Native.Nat.{ℕ}
 use mathlib.Core.Path.{◌≡◌, refl, sym, ap, ◌∙◌}
 use mathlib.Core.List.{List, [], ◌∷◌, ◌++◌, append_assoc}
-use mathlib.Core.Option.{some}
+use Rattle.std.specs.Prelude.{Some}
 use mathlib.Core.Bool.{Bool, true, false, cond}
 use lib.Dec.{eqb}
 use Rattle.lists.specs.Search.{Each}
@@ -34,12 +34,12 @@ module _ (calendar : List ℕ) (day : ℕ) where
     where
       -- what is found, by whether the first file is the one
       found : Bool → State
-      found a = record { today = day; file = cond a (some (marked calendar day f).file) (file_for premise (marked_files calendar day fs)) }
+      found a = record { today = day; file = cond a (Some (marked calendar day f).file) (file_for premise (marked_files calendar day fs)) }
 
       go : (a : Bool)
           → ◌≡◌ {A = State} (record { today = day; file = file_for premise (marked_files calendar day fs) })
           (marked_or calendar day (file_for premise fs)).state
-          → found a ≡ (marked_or calendar day (cond a (some f) (file_for premise fs))).state
+          → found a ≡ (marked_or calendar day (cond a (Some f) (file_for premise fs))).state
       go true ih = refl
       go false ih = ih
 

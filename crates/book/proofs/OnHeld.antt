@@ -3,13 +3,12 @@
 use Prim.Native.Nat.{ℕ, ◌≤◌, ◌<◌}
 use mathlib.Core.Path.{◌≡◌, sym, ap, subst, ◌∙◌}
 use mathlib.Core.List.{List}
-use mathlib.Core.Option.{Option, some}
+use Rattle.std.specs.Prelude.{Option, Some}
 use mathlib.Core.Bool.{Bool, false, cond}
 use native.Mathlib.Omega.{arith}
 use lib.ListN.{length, get_or}
 use lib.Seq.{get_or-take}
 use Rattle.records.specs.declared.Record.{Record}
-use Rattle.records.specs.declared.Reading.TheVariants.{Says}
 use Rattle.records.specs.Records.{reading, kind_day_mark}
 use Rattle.records.proofs.Readings.{says}
 use Rattle.premise.specs.declared.File.{File}
@@ -30,10 +29,10 @@ use Rattle.premise.proofs.KindsOf.{needs_no_mark}
 
 module _ (calendar : List ℕ) (b : Book) (bytes lent : List ℕ) (r : Record) (at : ℕ) (past g : File) (k : BookKept b)
     (room : notice_bytes ≤ length lent)
-    (e : reading bytes ≡ Says r) (h : OnHeld b at past r)
-    (left : (given_on calendar b.today (some (get_or b.files at past)) r).state.file ≡ some g) where
+    (e : reading bytes ≡ Some r) (h : OnHeld b at past r)
+    (left : (given_on calendar b.today (Some (get_or b.files at past)) r).state.file ≡ Some g) where
   abbrev ruled : Given
-  ruled = given_on calendar b.today (some (get_or b.files at past)) r
+  ruled = given_on calendar b.today (Some (get_or b.files at past)) r
 
   not_mark : is kind_day_mark r ≡ false
   not_mark = needs_no_mark r h.kind.needs
@@ -51,8 +50,8 @@ module _ (calendar : List ℕ) (b : Book) (bytes lent : List ℕ) (r : Record) (
   own : (get_or (files_of b) at past).premise ≡ r.premise
   own = ap (λ (f : File). f.premise) read_there ∙ h.own
 
-  found : file_for r.premise (files_of b) ≡ some (get_or b.files at past)
-  found = found_at past r.premise 0 (files_of b) rising at inside own ∙ ap some read_there
+  found : file_for r.premise (files_of b) ≡ Some (get_or b.files at past)
+  found = found_at past r.premise 0 (files_of b) rising at inside own ∙ ap Some read_there
 
   given : step calendar (premise_state b r.premise) r ≡ ruled
   given = ap (λ (x : Option File). given_on calendar b.today x r) found

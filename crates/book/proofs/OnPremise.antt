@@ -10,12 +10,12 @@ use lib.ListN.{length}
 use borrow.Author.Tests.{eqb-true, eqb-false}
 use Rattle.lists.specs.Search.{any_of}
 use Rattle.records.specs.declared.Record.{Record}
-use Rattle.records.specs.declared.Reading.{Reading}
-use Rattle.records.specs.declared.Reading.TheVariants.{Malformed, Says}
+use Rattle.std.specs.Prelude.{Option, Some, None}
 use Rattle.records.specs.Records.{reading, kind_create, kind_day_mark, well_formed}
 use Rattle.records.proofs.Readings.{says}
 use Rattle.premise.specs.declared.File.{File}
-use Rattle.premise.specs.declared.Answer.TheVariants.{Accepted, NotNextDay}
+use Rattle.std.specs.Prelude.{Ok, Err}
+use Rattle.premise.specs.declared.Refusal.TheVariants.{NotNextDay}
 use Rattle.premise.specs.Steps.{is}
 use Rattle.premise.specs.Refusals.{number, first_row, is_held}
 use Rattle.premise.specs.OnePremise.{Given, refused, step}
@@ -52,14 +52,14 @@ module _ (calendar : List ℕ) (b : Book) (bytes lent : List ℕ) (premise : ℕ
   refused_unheard n =
       subst (Unheard b bytes premise) (sym (call_refused calendar b bytes lent n)) (record { why = λ z. absurd (n z); state = refl })
 
-  module _ (r : Record) (e : reading bytes ≡ Says r) (p : FileAfter calendar b bytes lent)
+  module _ (r : Record) (e : reading bytes ≡ Some r) (p : FileAfter calendar b bytes lent)
       (zero : number (first_row (call_rows calendar b bytes lent)) ≡ 0) where
     formed : well_formed r ≡ true
     formed = (says bytes r e).formed
 
-    places : meets_row6 b (Says r) ≡ false
+    places : meets_row6 b (Some r) ≡ false
     places = go (is kind_create r) (eqb (length (files_of b)) most_files) (is_held (file_for r.premise (files_of b)))
-        (not_full calendar b r (ap (λ (d : Reading). any_of holds (record_rows calendar b d)) (sym e) ∙ p.none))
+        (not_full calendar b r (ap (λ (d : Option Record). any_of holds (record_rows calendar b d)) (sym e) ∙ p.none))
       where
         go : (creates full held : Bool) → (creates && full) ≡ false → (creates && not held && full) ≡ false
         go false full held h = refl
@@ -71,7 +71,7 @@ module _ (calendar : List ℕ) (b : Book) (bytes lent : List ℕ) (premise : ℕ
     ruled_zero =
         ap number
         (answer_is_first_row calendar (premise_state b r.premise) r ∙ sym (rows_of_one calendar b r places)
-        ∙ ap (λ (d : Reading). first_row (record_rows calendar b d)) (sym e)
+        ∙ ap (λ (d : Option Record). first_row (record_rows calendar b d)) (sym e)
         ∙ sym (record_decides calendar b bytes lent p.room p.kept))
         ∙ zero
 
@@ -81,28 +81,28 @@ module _ (calendar : List ℕ) (b : Book) (bytes lent : List ℕ) (premise : ℕ
       where
         marks : (other : ℕ) (next : Bool) → eqb r.day (b.today + 1) ≡ next
             → step calendar (premise_state b other) r
-            ≡ cond next (marked_or calendar r.day (file_for other (files_of b))) (refused NotNextDay (premise_state b other))
+            ≡ cond next (marked_or calendar r.day (file_for other (files_of b))) (refused (Err NotNextDay) (premise_state b other))
         marks other next q =
             mark_step calendar (premise_state b other) r t
             ∙ ap (λ (c : Bool). cond c (marked_or calendar r.day (file_for other (files_of b)))
-            (refused NotNextDay (premise_state b other))) q
+            (refused (Err NotNextDay) (premise_state b other))) q
 
         go : (next : Bool) → eqb r.day (b.today + 1) ≡ next
-            → Heard calendar b bytes premise (cond next (marked_book calendar b r.day) (refusal NotNextDay b))
+            → Heard calendar b bytes premise (cond next (marked_book calendar b r.day) (refusal (Err NotNextDay) b))
         go true q =
             let given = marks premise true q in
             record {
               said = r;
               says = e;
               own = λ other. absurd (false≢true (sym other ∙ t));
-              answered = (accepted_is_zero Accepted).1 refl;
+              answered = (accepted_is_zero (Ok tt)).1 refl;
               accepted = (accepted_is_zero (step calendar (premise_state b premise) r).answer).1
                   (ap (λ (x : Given). x.answer) given ∙ marked_accepted calendar r.day (file_for premise (files_of b)));
               state = state_of r.day premise (marked_files calendar r.day (files_of b))
                   ∙ marked_state calendar r.day premise (files_of b) k.files ∙ sym (ap (λ (x : Given). x.state) given);
             }
         go false q = absurd
-            (refusing NotNextDay refl (sym (ap (λ (x : Given). number x.answer) (marks r.premise false q)) ∙ ruled_zero))
+            (refusing NotNextDay (sym (ap (λ (x : Given). number x.answer) (marks r.premise false q)) ∙ ruled_zero))
 
     -- ---- any other record
     module _ (t : is kind_day_mark r ≡ false) where
@@ -160,10 +160,10 @@ module _ (calendar : List ℕ) (b : Book) (bytes lent : List ℕ) (premise : ℕ
       let p = passed calendar b bytes lent zero in
       go (reading bytes) refl p zero
     where
-      go : (d : Reading) → reading bytes ≡ d → FileAfter calendar b bytes lent → number (first_row (call_rows calendar b bytes lent)) ≡ 0
+      go : (d : Option Record) → reading bytes ≡ d → FileAfter calendar b bytes lent → number (first_row (call_rows calendar b bytes lent)) ≡ 0
           → Either calendar b bytes premise (call calendar b bytes lent)
-      go Malformed e p z = absurd (not_malformed calendar b (ap (λ (d : Reading). any_of holds (record_rows calendar b d)) (sym e) ∙ p.none))
-      go (Says r) e p z = heard r e p z
+      go None e p z = absurd (not_malformed calendar b (ap (λ (d : Option Record). any_of holds (record_rows calendar b d)) (sym e) ∙ p.none))
+      go (Some r) e p z = heard r e p z
 
 pub call_on_premise : CallOnPremise
 call_on_premise calendar b bytes lent premise well =

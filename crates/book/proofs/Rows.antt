@@ -4,7 +4,7 @@ use Prim.Native.Nat.{ℕ, ◌≤◌}
 use mathlib.Core.Path.{◌≡◌, refl, sym, ◌∙◌, ap, ap₂}
 use mathlib.Core.Logic.{◌↔◌}
 use mathlib.Core.List.{List, [], ◌∷◌, ◌++◌}
-use mathlib.Core.Option.{Option, none, some}
+use Rattle.std.specs.Prelude.{Option, Some, None}
 use mathlib.Core.Bool.{Bool, true, false, cond, not, ◌&&◌, ◌||◌, false≢true, and-false}
 use lib.Dec.{eqb, ltb}
 use lib.ListN.{length}
@@ -13,17 +13,16 @@ use denote.Enum.Declared.{tag_of}
 use Rattle.lists.specs.Search.{any_of}
 use Rattle.lists.proofs.TestLaws.{or_left, or_right}
 use Rattle.records.specs.declared.Record.{Record}
-use Rattle.records.specs.declared.Reading.{Reading}
-use Rattle.records.specs.declared.Reading.TheVariants.{Malformed, Says}
 use Rattle.records.specs.Records.{reading, kind_create}
 use Rattle.premise.specs.declared.File.{File}
-use Rattle.premise.specs.declared.Answer.{Answer}
-use Rattle.premise.specs.declared.Answer.TheVariants.{Accepted, ShortBuffer, NotWellKept, MalformedRecord, BookFull}
+use Rattle.std.specs.Prelude.{Ok, Err, is_ok}
+use Rattle.premise.specs.Refusals.{Answer}
+use Rattle.premise.specs.declared.Refusal.TheVariants.{ShortBuffer, NotWellKept, MalformedRecord, BookFull}
 use Rattle.premise.specs.Steps.{is}
 use Rattle.premise.specs.Refusals.{Row, row, first_row, number, is_held, premise_rows, file_rows, rows}
 use Rattle.premise.proofs.Answers.{first_row_skips, answer_is_first_row, zero_where_no_row, holds}
 use Rattle.premise.proofs.Table.{accepted_is_zero, create_held}
-use Rattle.premise.specs.contracts.Answer.{the_type}
+use Rattle.premise.specs.declared.Refusal.{Refusal}
 use Rattle.book.specs.declared.Book.{Book}
 use Rattle.book.specs.Book.{most_files, files_of, book_kept, file_for}
 use Rattle.book.specs.Calls.{notice_bytes, record_rows, call_rows, premise_state, meets_row6, call_rows_by}
@@ -32,13 +31,9 @@ use Rattle.book.specs.Calls.{notice_bytes, record_rows, call_rows, premise_state
 abbrev pub Refuses : Answer → Type 0
 Refuses answer = number answer ≡ 0 → ⊥
 
--- whether it is acceptance, the first of the answers
-abbrev accepts : Answer → Bool
-accepts answer = eqb (tag_of the_type answer) 0
-
--- every other refuses
-pub refusing : (answer : Answer) → accepts answer ≡ false → Refuses answer
-refusing answer t e = false≢true (sym t ∙ ap accepts ((accepted_is_zero answer).0 e))
+-- every row does
+pub refusing : (why : Refusal) → Refuses (Err why)
+refusing why e = absurd (false≢true (ap is_ok ((accepted_is_zero (Err why)).0 e)))
 
 -- ---- a table whose first row is acceptance exactly where none holds
 abbrev ExactIf : Bool → Answer → List Row → Type 0
@@ -47,16 +42,16 @@ ExactIf when answer rs = (number (cond when answer (first_row rs)) ≡ 0) ↔ ((
 abbrev pub Exact : List Row → Type 0
 Exact rs = (number (first_row rs) ≡ 0) ↔ (any_of holds rs ≡ false)
 
-exact_cons : (answer : Answer) (when : Bool) (rs : List Row) → Refuses answer → Exact rs → Exact (row answer when ∷ rs)
-exact_cons answer true rs n h = ((λ e. absurd (n e)), (λ e. absurd (false≢true (sym e))))
-exact_cons answer false rs n h = h
+exact_cons : (why : Refusal) (when : Bool) (rs : List Row) → Exact rs → Exact (row why when ∷ rs)
+exact_cons why true rs h = ((λ e. absurd (refusing why e)), (λ e. absurd (false≢true (sym e))))
+exact_cons why false rs h = h
 
-exact_insert : (a b : List Row) (answer : Answer) (when : Bool) → Refuses answer → Exact (a ++ b) → Exact (a ++ (row answer when ∷ b))
-exact_insert [] b answer when n h = exact_cons answer when b n h
-exact_insert (x ∷ a) b answer when n h = go x.when h (exact_insert a b answer when n)
+exact_insert : (a b : List Row) (why : Refusal) (when : Bool) → Exact (a ++ b) → Exact (a ++ (row why when ∷ b))
+exact_insert [] b why when h = exact_cons why when b h
+exact_insert (x ∷ a) b why when h = go x.when h (exact_insert a b why when)
   where
-    go : (w : Bool) → ExactIf w x.answer (a ++ b) → (Exact (a ++ b) → Exact (a ++ (row answer when ∷ b)))
-        → ExactIf w x.answer (a ++ (row answer when ∷ b))
+    go : (w : Bool) → ExactIf w x.answer (a ++ b) → (Exact (a ++ b) → Exact (a ++ (row why when ∷ b)))
+        → ExactIf w x.answer (a ++ (row why when ∷ b))
     go true h ih = h
     go false h ih = ih h
 
@@ -73,15 +68,15 @@ pub record FileAfter (calendar : List ℕ) (b : Book) (bytes lent : List ℕ) : 
   pub none : any_of holds (record_rows calendar b (reading bytes)) ≡ false
 
 -- a record of a premise that is held does not meet row 6
-pub not_new : (b : Book) (r : Record) (f : File) → file_for r.premise (files_of b) ≡ some f → meets_row6 b (Says r) ≡ false
+pub not_new : (b : Book) (r : Record) (f : File) → file_for r.premise (files_of b) ≡ Some f → meets_row6 b (Some r) ≡ false
 not_new b r f found =
     ap (λ (x : Option File). is kind_create r && not (is_held x) && eqb (length (files_of b)) most_files) found
     ∙ ap (λ (a : Bool). a && eqb (length (files_of b)) most_files) (and-false (is kind_create r))
 
 module _ (calendar : List ℕ) (b : Book) where
   -- a record that does not meet row 6 meets the rows of the one-premise rules
-  pub rows_of_one : (r : Record) → meets_row6 b (Says r) ≡ false
-      → first_row (record_rows calendar b (Says r)) ≡ first_row (rows calendar b.today (file_for r.premise (files_of b)) r)
+  pub rows_of_one : (r : Record) → meets_row6 b (Some r) ≡ false
+      → first_row (record_rows calendar b (Some r)) ≡ first_row (rows calendar b.today (file_for r.premise (files_of b)) r)
   rows_of_one r e = go (is kind_create r) (eqb (length (files_of b)) most_files) (file_for r.premise (files_of b)) refl e
     where
       go : (creates full : Bool) (file : Option File) → is kind_create r ≡ creates → (creates && not (is_held file) && full) ≡ false
@@ -91,32 +86,32 @@ module _ (calendar : List ℕ) (b : Book) where
           first_row_skips (premise_rows file r) (row BookFull false) (file_rows calendar b.today file r) refl
       go true false file t e =
           first_row_skips (premise_rows file r) (row BookFull false) (file_rows calendar b.today file r) refl
-      go true true none t e = absurd (false≢true (sym e))
-      go true true (some f) t e =
-          create_held f r (row BookFull true ∷ file_rows calendar b.today (some f) r) t
-          ∙ sym (create_held f r (file_rows calendar b.today (some f) r) t)
+      go true true None t e = absurd (false≢true (sym e))
+      go true true (Some f) t e =
+          create_held f r (row BookFull true ∷ file_rows calendar b.today (Some f) r) t
+          ∙ sym (create_held f r (file_rows calendar b.today (Some f) r) t)
 
   -- row 3 holds of malformed bytes
-  pub not_malformed : any_of holds (record_rows calendar b Malformed) ≡ false → ⊥
+  pub not_malformed : any_of holds (record_rows calendar b None) ≡ false → ⊥
   not_malformed e = false≢true (sym e)
 
   -- where no row holds, row 6 does not
-  pub not_full : (r : Record) → any_of holds (record_rows calendar b (Says r)) ≡ false
+  pub not_full : (r : Record) → any_of holds (record_rows calendar b (Some r)) ≡ false
       → (is kind_create r && eqb (length (files_of b)) most_files) ≡ false
   not_full r e =
       let file : Option File = file_for r.premise (files_of b) in
       let full : Bool = is kind_create r && eqb (length (files_of b)) most_files in
       none_holds (row MalformedRecord false ∷ premise_rows file r) (row BookFull full) (file_rows calendar b.today file r) e
 
-  record_exact : (d : Reading) → Exact (record_rows calendar b d)
-  record_exact Malformed =
-      exact_cons MalformedRecord true [] (refusing MalformedRecord refl) ((λ e. refl), (λ e. (accepted_is_zero Accepted).1 refl))
-  record_exact (Says r) =
+  record_exact : (d : Option Record) → Exact (record_rows calendar b d)
+  record_exact None =
+      exact_cons MalformedRecord true [] ((λ e. refl), (λ e. (accepted_is_zero (Ok tt)).1 refl))
+  record_exact (Some r) =
       let file : Option File = file_for r.premise (files_of b) in
       let law = zero_where_no_row calendar (premise_state b r.premise) r in
       let exact : Exact (rows calendar b.today file r) = rw (answer_is_first_row calendar (premise_state b r.premise) r) at law in
       exact_insert (premise_rows file r) (file_rows calendar b.today file r) BookFull
-      (is kind_create r && eqb (length (files_of b)) most_files) (refusing BookFull refl) exact
+      (is kind_create r && eqb (length (files_of b)) most_files) exact
 
 module _ (calendar : List ℕ) (b : Book) (bytes lent : List ℕ) where
   -- with a long enough buffer and a well_kept book the first row is one of the record's
@@ -131,8 +126,8 @@ module _ (calendar : List ℕ) (b : Book) (bytes lent : List ℕ) where
   unfolding call_rows_by
   call_exact =
       let rest : List Row = record_rows calendar b (reading bytes) in
-      exact_cons ShortBuffer (ltb (length lent) notice_bytes) (row NotWellKept (not (book_kept b)) ∷ rest) (refusing ShortBuffer refl)
-      (exact_cons NotWellKept (not (book_kept b)) rest (refusing NotWellKept refl) (record_exact calendar b (reading bytes)))
+      exact_cons ShortBuffer (ltb (length lent) notice_bytes) (row NotWellKept (not (book_kept b)) ∷ rest)
+      (exact_cons NotWellKept (not (book_kept b)) rest (record_exact calendar b (reading bytes)))
 
   pub passed : number (first_row (call_rows calendar b bytes lent)) ≡ 0 → FileAfter calendar b bytes lent
   unfolding call_rows_by

@@ -7,11 +7,13 @@ use mathlib.Core.Bool.{Bool, true, false, cond, not, ◌&&◌}
 use lib.Dec.{eqb, ltb}
 use lib.ListN.{length, get_or}
 use borrow.Author.Tests.{ne_eqb, lt-ltb, le-ltb}
-use Rattle.records.specs.declared.Reading.{Reading}
+use Rattle.std.specs.Prelude.{Option}
+use Rattle.records.specs.declared.Record.{Record}
 use Rattle.records.specs.Layout.{wide}
 use Rattle.records.specs.Records.{reading_by, reading, kind_create}
-use Rattle.premise.specs.declared.Answer.{Answer}
-use Rattle.premise.specs.declared.Answer.TheVariants.{ShortBuffer, NotWellKept, MalformedRecord, BookFull}
+use Rattle.std.specs.Prelude.{Err}
+use Rattle.premise.specs.Refusals.{Answer}
+use Rattle.premise.specs.declared.Refusal.TheVariants.{ShortBuffer, NotWellKept, MalformedRecord, BookFull}
 use Rattle.premise.specs.Steps.{is}
 use Rattle.premise.specs.Orders.{kept_width}
 use Rattle.premise.specs.Refusals.{Row, row, first_row, number, orders_of, premise_rows, file_rows, width_in}
@@ -26,16 +28,16 @@ use Rattle.book.proofs.Rows.{refusing}
 use Rattle.book.proofs.CallAnswer.{call_refused}
 
 -- ---- the numbers
-short_is_1 : number ShortBuffer ≡ 1
+short_is_1 : number (Err ShortBuffer) ≡ 1
 short_is_1 = ap (λ (ns : List ℕ). get_or ns 0 0) book_answers
 
-unkept_is_2 : number NotWellKept ≡ 2
+unkept_is_2 : number (Err NotWellKept) ≡ 2
 unkept_is_2 = ap (λ (ns : List ℕ). get_or ns 1 0) book_answers
 
-malformed_is_3 : number MalformedRecord ≡ 3
+malformed_is_3 : number (Err MalformedRecord) ≡ 3
 malformed_is_3 = ap (λ (ns : List ℕ). get_or ns 2 0) book_answers
 
-full_is_6 : number BookFull ≡ 6
+full_is_6 : number (Err BookFull) ≡ 6
 full_is_6 = ap (λ (ns : List ℕ). get_or ns 3 0) book_answers
 
 module _ (calendar : List ℕ) (b : Book) (bytes lent : List ℕ) where
@@ -46,7 +48,7 @@ module _ (calendar : List ℕ) (b : Book) (bytes lent : List ℕ) where
 
 pub rows_of_malformed : RowsOfMalformed
 rows_of_malformed calendar b bytes lent e =
-    first_two calendar b bytes lent ∙ ap (λ (d : Reading). 1 ∷ 2 ∷ row_numbers (record_rows calendar b d)) e
+    first_two calendar b bytes lent ∙ ap (λ (d : Option Record). 1 ∷ 2 ∷ row_numbers (record_rows calendar b d)) e
     ∙ ap (λ (n : ℕ). 1 ∷ 2 ∷ n ∷ []) malformed_is_3
 
 pub rows_of_record : RowsOfRecord
@@ -54,7 +56,7 @@ rows_of_record calendar b bytes lent r e =
     let file = file_for r.premise (files_of b) in
     let full : Row = row BookFull (is kind_create r && eqb (length (files_of b)) most_files) in
     let later : List Row = file_rows calendar b.today file r in
-    first_two calendar b bytes lent ∙ ap (λ (d : Reading). 1 ∷ 2 ∷ row_numbers (record_rows calendar b d)) e
+    first_two calendar b bytes lent ∙ ap (λ (d : Option Record). 1 ∷ 2 ∷ row_numbers (record_rows calendar b d)) e
     ∙ ap₂ (λ (n : ℕ) (ns : List ℕ). 1 ∷ 2 ∷ n ∷ ns) malformed_is_3
     (map-append (λ (x : Row). number x.answer) (premise_rows file r) (full ∷ later)
     ∙ ap₂ ◌++◌ (premise_row_numbers file r) (ap₂ ◌∷◌ full_is_6 (order_row_numbers (width_in kept_width file) calendar b.today
@@ -71,13 +73,13 @@ module _ (calendar : List ℕ) (b : Book) (bytes lent : List ℕ) where
 pub call_short : CallShort
 unfolding call_rows_by
 call_short calendar b bytes lent h =
-    refused_by calendar b bytes lent ShortBuffer (refusing ShortBuffer refl)
+    refused_by calendar b bytes lent (Err ShortBuffer) (refusing ShortBuffer)
     (ap (λ (short : Bool). first_row (row ShortBuffer short ∷ row NotWellKept (not (book_kept b)) ∷ record_rows calendar b (reading bytes)))
     (lt-ltb (length lent) notice_bytes h))
 
 -- ---- rows 2 and 3, by any layout
 -- a call by what rows 1 and 2 ask and what its bytes say
-by_rows : List ℕ → Book → Bool → Bool → Reading → Result
+by_rows : List ℕ → Book → Bool → Bool → Option Record → Result
 by_rows calendar b short kept d =
     let rows : List Row = row ShortBuffer short ∷ row NotWellKept (not kept) ∷ record_rows calendar b d in
     cond (eqb (number (first_row rows)) 0) (on_reading calendar b d) (refusal (first_row rows) b)
@@ -86,14 +88,14 @@ pub not_kept_by : NotKeptBy
 unfolding call_by call_rows_by by_rows
 not_kept_by layout calendar b bytes lent h k =
     ap₂ (λ (short kept : Bool). by_rows calendar b short kept (reading_by layout bytes)) (le-ltb (length lent) notice_bytes h) k
-    ∙ rw (ne_eqb (number NotWellKept) 0 (refusing NotWellKept refl)) refl
+    ∙ rw (ne_eqb (number (Err NotWellKept)) 0 (refusing NotWellKept)) refl
 
 pub malformed_by : MalformedBy
 unfolding call_by call_rows_by by_rows
 malformed_by layout calendar b bytes lent h k e =
     ap₂ (λ (short kept : Bool). by_rows calendar b short kept (reading_by layout bytes)) (le-ltb (length lent) notice_bytes h) k
     ∙ ap (by_rows calendar b false true) e
-    ∙ rw (ne_eqb (number MalformedRecord) 0 (refusing MalformedRecord refl)) refl
+    ∙ rw (ne_eqb (number (Err MalformedRecord)) 0 (refusing MalformedRecord)) refl
 
 pub call_by_either : CallByEither
 unfolding call_by call_rows_by by_rows

@@ -2,7 +2,7 @@
 use Prim.Native.Nat.{ℕ, ◌<◌}
 use mathlib.Core.Path.{◌≡◌, refl, ap, sym, ◌∙◌}
 use mathlib.Core.List.{List, [], ◌∷◌}
-use mathlib.Core.Option.{Option, none, some}
+use Rattle.std.specs.Prelude.{Option, Some, None}
 use mathlib.Core.Bool.{Bool, true, false}
 use native.Mathlib.Omega.{arith}
 use lib.Dec.{eqb, ltb}
@@ -21,26 +21,26 @@ Numbered premise file = Held (λ f. f.premise ≡ premise) file
 
 pub with_found : (premise n : ℕ) (file : Option File) (gs : List File) → Rising n gs → Numbered premise file
     → file_for premise (with_file premise file gs) ≡ file
-with_found premise n none gs r e = taken_found premise n gs r
-with_found premise n (some f) gs r e = ap (λ p. file_for p (put_in f gs)) (sym e) ∙ put_found f gs
+with_found premise n None gs r e = taken_found premise n gs r
+with_found premise n (Some f) gs r e = ap (λ p. file_for p (put_in f gs)) (sym e) ∙ put_found f gs
 
 pub with_others : (other premise : ℕ) (file : Option File) (gs : List File) → (premise ≡ other → ⊥) → Numbered premise file
     → file_for other (with_file premise file gs) ≡ file_for other gs
-with_others other premise none gs n e = taken_others other premise gs n
-with_others other premise (some f) gs n e = put_others other f gs (λ k. n (sym e ∙ k))
+with_others other premise None gs n e = taken_others other premise gs n
+with_others other premise (Some f) gs n e = put_others other f gs (λ k. n (sym e ∙ k))
 
 pub with_rising : (premise : ℕ) (file : Option File) (gs : List File) → 0 < premise → Rising 0 gs → Numbered premise file
     → Rising 0 (with_file premise file gs)
-with_rising premise none gs h r e = taken_rising 0 premise gs r
-with_rising premise (some f) gs h r e = put_rising 0 f gs (omega arith) r
+with_rising premise None gs h r e = taken_rising 0 premise gs r
+with_rising premise (Some f) gs h r e = put_rising 0 f gs (omega arith) r
 
 pub with_each : (Has : File → Type 0) (premise : ℕ) (file : Option File) (gs : List File) → Held Has file → Each Has gs
     → Each Has (with_file premise file gs)
-with_each Has premise none gs h u = taken_each Has premise gs u
-with_each Has premise (some f) gs h u = put_each Has f gs h u
+with_each Has premise None gs h u = taken_each Has premise gs u
+with_each Has premise (Some f) gs h u = put_each Has f gs h u
 
 -- ---- a list by what it finds
-no_head : (h : File) (hs : List File) → file_for h.premise (h ∷ hs) ≡ none → ⊥
+no_head : (h : File) (hs : List File) → file_for h.premise (h ∷ hs) ≡ None → ⊥
 no_head h hs e = let a = found_head h.premise h hs refl in let z : ◌≡◌ {A = ℕ} 0 1 = cc in omega arith
 
 no_less : (g h : File) (gs hs : List File) → Rising h.premise hs → file_for g.premise (g ∷ gs) ≡ file_for g.premise (h ∷ hs)
@@ -89,8 +89,8 @@ with_same premise gs h r =
     r (every (with_file premise (file_for premise gs) gs)) (every gs) same
   where
     unpair : (file : Option File) → Held (λ f. (f.premise ≡ premise) × Unit {0}) file → Numbered premise file
-    unpair none u = tt
-    unpair (some f) u = u.0
+    unpair None u = tt
+    unpair (Some f) u = u.0
 
     numbered : Numbered premise (file_for premise gs)
     numbered = unpair (file_for premise gs) (found_has (λ f. Unit {0}) premise gs (every gs))

@@ -1,6 +1,6 @@
 -- Document 01, "The book": T and up to 64 files in rising P.
 use Rattle.std.specs.Prelude.{ℕ, ◌-◌, min, List, [], ◌∷◌, ◌++◌, Bool, true, cond, ◌&&◌, eqb, leb, ltb, length, take, drop, replicate}
-use Rattle.std.proofs.Math.Option.{Option, none, some}
+use Rattle.std.specs.Prelude.{Option, Some, None}
 use Rattle.lists.specs.Search.{all_of}
 use Rattle.days.specs.Days.{last_day, is_day}
 use Rattle.records.specs.Layout.{Layout, wide}
@@ -55,8 +55,8 @@ book_kept = book_kept_by wide
 
 -- the file of a premise, or none
 unfoldable pub file_for : ℕ → List File → Option File
-file_for premise [] = none
-file_for premise (f ∷ fs) = cond (eqb f.premise premise) (some f) (file_for premise fs)
+file_for premise [] = None
+file_for premise (f ∷ fs) = cond (eqb f.premise premise) (Some f) (file_for premise fs)
 
 -- a file put in by its premise number, in the place of the one that has it
 unfoldable pub put_in : File → List File → List File
@@ -70,5 +70,5 @@ taken_out premise (g ∷ gs) = cond (eqb g.premise premise) gs (g ∷ taken_out 
 
 -- the files with another file, or none, for a premise
 abbrev pub with_file : ℕ → Option File → List File → List File
-with_file premise none fs = taken_out premise fs
-with_file premise (some f) fs = put_in f fs
+with_file premise None fs = taken_out premise fs
+with_file premise (Some f) fs = put_in f fs

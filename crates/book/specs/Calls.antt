@@ -2,14 +2,14 @@
 -- record does what the one-premise rules say.
 use Rattle.std.specs.Prelude.{ℕ, ◌+◌, List, [], ◌∷◌, ◌++◌, map, Bool, true, false, cond, not, ◌&&◌, eqb, ltb, length}
 use Rattle.records.specs.declared.Record.{Record}
-use Rattle.records.specs.declared.Reading.{Reading}
-use Rattle.records.specs.declared.Reading.TheVariants.{Malformed, Says}
+use Rattle.std.specs.Prelude.{Option, Some, None}
 use Rattle.records.specs.declared.Notice.{Notice}
 use Rattle.records.specs.Layout.{Layout, wide}
 use Rattle.records.specs.Records.{reading_by, kind_create, kind_day_mark}
 use Rattle.premise.specs.declared.File.{File}
-use Rattle.premise.specs.declared.Answer.{Answer}
-use Rattle.premise.specs.declared.Answer.TheVariants.{Accepted, ShortBuffer, NotWellKept, MalformedRecord, BookFull, NotNextDay}
+use Rattle.std.specs.Prelude.{Ok, Err}
+use Rattle.premise.specs.Refusals.{Answer}
+use Rattle.premise.specs.declared.Refusal.TheVariants.{ShortBuffer, NotWellKept, MalformedRecord, BookFull, NotNextDay}
 use Rattle.premise.specs.Orders.{kept_width}
 use Rattle.premise.specs.Steps.{is}
 use Rattle.premise.specs.Refusals.{Row, row, first_row, number, is_held, premise_rows, file_rows_with}
@@ -23,15 +23,15 @@ notice_bytes = 24576
 
 -- ---- the table
 -- rows 3 to 15, with 18 after 4, 26 between 11 and 12 and 16 and 17 after 14, by what the record's bytes say
-abbrev pub record_rows_with : (File → ℕ) → List ℕ → Book → Reading → List Row
-record_rows_with width calendar b Malformed = row MalformedRecord true ∷ []
-record_rows_with width calendar b (Says r) =
+abbrev pub record_rows_with : (File → ℕ) → List ℕ → Book → Option Record → List Row
+record_rows_with width calendar b None = row MalformedRecord true ∷ []
+record_rows_with width calendar b (Some r) =
     row MalformedRecord false
     ∷ premise_rows (file_for r.premise (files_of b)) r
     ++ (row BookFull (is kind_create r && eqb (length (files_of b)) most_files)
     ∷ file_rows_with width calendar b.today (file_for r.premise (files_of b)) r)
 
-abbrev pub record_rows : List ℕ → Book → Reading → List Row
+abbrev pub record_rows : List ℕ → Book → Option Record → List Row
 record_rows = record_rows_with kept_width
 
 -- the whole table, in its order: rows 2 and 3 by a layout
@@ -49,9 +49,9 @@ call_rows = call_rows_with kept_width
 
 -- A well-formed create of a premise that is not held, while 64 files are held, meets row 6. `AnsweredFull` (Laws.antt) ties it to the
 -- table.
-abbrev pub meets_row6 : Book → Reading → Bool
-meets_row6 b Malformed = false
-meets_row6 b (Says r) = is kind_create r && not (is_held (file_for r.premise (files_of b))) && eqb (length (files_of b)) most_files
+abbrev pub meets_row6 : Book → Option Record → Bool
+meets_row6 b None = false
+meets_row6 b (Some r) = is kind_create r && not (is_held (file_for r.premise (files_of b))) && eqb (length (files_of b)) most_files
 
 -- ---- what a record does that meets no row
 -- what comes of a call: the answer, the notices, and the book afterwards
@@ -77,7 +77,7 @@ marked_notices = marked_notices_with kept_width
 abbrev pub marked_book_with : (File → ℕ) → List ℕ → Book → ℕ → Result
 marked_book_with width calendar b day =
     record {
-      answer = Accepted;
+      answer = Ok tt;
       notices = marked_notices_with width calendar day (files_of b);
       book = book_of day (marked_files_with width calendar day (files_of b));
     }
@@ -92,7 +92,7 @@ premise_state b premise = record { today = b.today; file = file_for premise (fil
 abbrev pub on_premise_with : (File → ℕ) → List ℕ → Book → Record → Result
 on_premise_with width calendar b r =
     record {
-      answer = Accepted;
+      answer = Ok tt;
       notices = (step_with width calendar (premise_state b r.premise) r).notices;
       book =
           book_of b.today (with_file r.premise (step_with width calendar (premise_state b r.premise) r).state.file (files_of b));
@@ -101,12 +101,12 @@ on_premise_with width calendar b r =
 abbrev pub on_premise : List ℕ → Book → Record → Result
 on_premise = on_premise_with kept_width
 
-abbrev pub on_reading_with : (File → ℕ) → List ℕ → Book → Reading → Result
-on_reading_with width calendar b Malformed = record { answer = MalformedRecord; notices = []; book = b }
-on_reading_with width calendar b (Says r) =
+abbrev pub on_reading_with : (File → ℕ) → List ℕ → Book → Option Record → Result
+on_reading_with width calendar b None = record { answer = Err MalformedRecord; notices = []; book = b }
+on_reading_with width calendar b (Some r) =
     cond (is kind_day_mark r) (marked_book_with width calendar b r.day) (on_premise_with width calendar b r)
 
-abbrev pub on_reading : List ℕ → Book → Reading → Result
+abbrev pub on_reading : List ℕ → Book → Option Record → Result
 on_reading = on_reading_with kept_width
 
 -- ---- the call
@@ -130,7 +130,7 @@ call = call_with kept_width
 -- ---- what a call comes to on a well_kept book with a long enough buffer, by what its record is; proofs/Acts.antt proves it
 -- a day mark: row 15, then the mark
 abbrev pub on_day_mark : List ℕ → Book → Record → Result
-on_day_mark calendar b r = cond (eqb r.day (b.today + 1)) (marked_book calendar b r.day) (refusal NotNextDay b)
+on_day_mark calendar b r = cond (eqb r.day (b.today + 1)) (marked_book calendar b r.day) (refusal (Err NotNextDay) b)
 
 -- what the one-premise rules give, in the book ..
 abbrev pub in_book : Book → ℕ → Given → Result

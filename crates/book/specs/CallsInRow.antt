@@ -4,8 +4,8 @@ use Rattle.std.specs.Prelude.{ℕ, zero, suc, ◌*◌, ◌-◌, ◌≡◌, List,
 use Rattle.records.specs.declared.Notice.{Notice}
 use Rattle.records.specs.Layout.{record_length}
 use Rattle.records.specs.Notices.{Emits}
-use Rattle.premise.specs.declared.Answer.{Answer}
-use Rattle.premise.specs.declared.Answer.TheVariants.{Accepted}
+use Rattle.std.specs.Prelude.{Ok}
+use Rattle.premise.specs.Refusals.{Answer}
 use Rattle.premise.specs.Refusals.{number}
 use Rattle.book.specs.declared.Book.{Book}
 use Rattle.book.specs.declared.Playback.{Playback}
@@ -65,7 +65,7 @@ Noted numbers before after = after ≡ numbers ++ drop (length numbers) before
 pub record Plays (course : Course) (r : Playback) (answers₀ answers₁ counts₀ counts₁ notices₀ notices₁ : List ℕ) : Type 0 where
   pub book : r.book ≡ course.book
   pub played : r.played ≡ length course.results
-  pub last : r.last ≡ last_answer Accepted course.results
+  pub last : r.last ≡ last_answer (Ok tt) course.results
   pub answers : Noted (answers_of course.results) answers₀ answers₁
   pub counts : Noted (counts_of course.results) counts₀ counts₁
   pub notices : Emits notices₀ notices₁ r.sent (notices_of course.results)

@@ -1,15 +1,15 @@
 -- What the layers above rely on about the book, as statements; proofs/ proves each.
 use Rattle.std.specs.Prelude.{ℕ, ◌+◌, ◌*◌, ◌≤◌, ◌<◌, ◌≡◌, ◌↔◌, ◌⊎◌, List, [], ◌∷◌, ◌++◌, true, false, ltb, length, get_or, set}
-use Rattle.std.proofs.Math.Option.{none, some}
+use Rattle.std.specs.Prelude.{Some, None}
 use Rattle.lists.specs.Search.{Each}
 use Rattle.lists.specs.Shift.{inserted, removed}
 use Rattle.days.specs.Days.{last_day}
 use Rattle.records.specs.declared.Record.{Record}
-use Rattle.records.specs.declared.Reading.TheVariants.{Malformed, Says}
 use Rattle.records.specs.Layout.{Layout, record_length, wide, narrow}
 use Rattle.records.specs.Records.{kind_day_mark, well_formed, reading_by, reading}
 use Rattle.premise.specs.declared.File.{File}
-use Rattle.premise.specs.declared.Answer.TheVariants.{ShortBuffer, NotWellKept, MalformedRecord, NoSuchPremise}
+use Rattle.std.specs.Prelude.{Err}
+use Rattle.premise.specs.declared.Refusal.TheVariants.{ShortBuffer, NotWellKept, MalformedRecord, NoSuchPremise}
 use Rattle.premise.specs.Orders.{kept_width}
 use Rattle.premise.specs.Steps.{is}
 use Rattle.premise.specs.Refusals.{number, needs_premise}
@@ -101,37 +101,37 @@ CallFew = (calendar : List ℕ) (b : Book) (bytes lent : List ℕ) → record_le
 -- malformed bytes, of which row 3 holds
 abbrev pub RowsOfRecord : Type 0
 RowsOfRecord =
-    (calendar : List ℕ) (b : Book) (bytes lent : List ℕ) (r : Record) → reading bytes ≡ Says r
+    (calendar : List ℕ) (b : Book) (bytes lent : List ℕ) (r : Record) → reading bytes ≡ Some r
     → row_numbers (call_rows calendar b bytes lent) ≡ 1 ∷ 2 ∷ 3 ∷ 4 ∷ 18 ∷ 5 ∷ 6 ∷ 7 ∷ 8 ∷ 9 ∷ 10 ∷ 11 ∷ 26 ∷ 12 ∷ 13 ∷ 14 ∷ 16 ∷ 17 ∷ 15 ∷ []
 
 abbrev pub RowsOfMalformed : Type 0
 RowsOfMalformed =
-    (calendar : List ℕ) (b : Book) (bytes lent : List ℕ) → reading bytes ≡ Malformed
+    (calendar : List ℕ) (b : Book) (bytes lent : List ℕ) → reading bytes ≡ None
     → row_numbers (call_rows calendar b bytes lent) ≡ 1 ∷ 2 ∷ 3 ∷ []
 
 -- 1 before 2: a buffer under 24,576 bytes gets 1, whatever the book and the bytes
 abbrev pub CallShort : Type 0
 CallShort =
-    (calendar : List ℕ) (b : Book) (bytes lent : List ℕ) → length lent < notice_bytes → call calendar b bytes lent ≡ refusal ShortBuffer b
+    (calendar : List ℕ) (b : Book) (bytes lent : List ℕ) → length lent < notice_bytes → call calendar b bytes lent ≡ refusal (Err ShortBuffer) b
 
 -- 2 before 3: with a longer one a book that is not well kept gets 2, whatever the bytes. (`CallMalformed`, below, says 3.)
 abbrev pub CallNotKept : Type 0
 CallNotKept =
     (calendar : List ℕ) (b : Book) (bytes lent : List ℕ) → notice_bytes ≤ length lent → book_kept b ≡ false
-    → call calendar b bytes lent ≡ refusal NotWellKept b
+    → call calendar b bytes lent ≡ refusal (Err NotWellKept) b
 
 -- Document 02, change 7: rows 2 and 3 go by the layout, whichever it is. With a long enough buffer a book that is not well kept by it gets
 -- 2, and on any other bytes that are malformed by it get 3.
 abbrev pub NotKeptBy : Type 0
 NotKeptBy =
     (layout : Layout) (calendar : List ℕ) (b : Book) (bytes lent : List ℕ) → notice_bytes ≤ length lent → book_kept_by layout b ≡ false
-    → call_by layout kept_width calendar b bytes lent ≡ refusal NotWellKept b
+    → call_by layout kept_width calendar b bytes lent ≡ refusal (Err NotWellKept) b
 
 abbrev pub MalformedBy : Type 0
 MalformedBy =
     (layout : Layout) (calendar : List ℕ) (b : Book) (bytes lent : List ℕ) → notice_bytes ≤ length lent → book_kept_by layout b ≡ true
-    → reading_by layout bytes ≡ Malformed
-    → call_by layout kept_width calendar b bytes lent ≡ refusal MalformedRecord b
+    → reading_by layout bytes ≡ None
+    → call_by layout kept_width calendar b bytes lent ≡ refusal (Err MalformedRecord) b
 
 -- It goes by the layout in these two rows and in what the bytes say, and nowhere else.
 abbrev pub CallByEither : Type 0
@@ -168,24 +168,24 @@ pub record StoresFile (calendar : List ℕ) (b : Book) (bytes lent : List ℕ) (
 abbrev pub CallOnHeld : Type 0
 CallOnHeld =
     (calendar : List ℕ) (b : Book) (bytes lent : List ℕ) (r : Record) (at : ℕ) (past g : File)
-    → book_kept b ≡ true → notice_bytes ≤ length lent → reading bytes ≡ Says r → OnHeld b at past r
-    → (given_on calendar b.today (some (get_or b.files at past)) r).state.file ≡ some g
-    → StoresFile calendar b bytes lent r at (given_on calendar b.today (some (get_or b.files at past)) r) g
+    → book_kept b ≡ true → notice_bytes ≤ length lent → reading bytes ≡ Some r → OnHeld b at past r
+    → (given_on calendar b.today (Some (get_or b.files at past)) r).state.file ≡ Some g
+    → StoresFile calendar b bytes lent r at (given_on calendar b.today (Some (get_or b.files at past)) r) g
 
 -- ---- a call by what its record says, without a look into the files
 -- malformed bytes get 3
 abbrev pub CallMalformed : Type 0
 CallMalformed =
-    (calendar : List ℕ) (b : Book) (bytes lent : List ℕ) → book_kept b ≡ true → notice_bytes ≤ length lent → reading bytes ≡ Malformed
-    → call calendar b bytes lent ≡ refusal MalformedRecord b
+    (calendar : List ℕ) (b : Book) (bytes lent : List ℕ) → book_kept b ≡ true → notice_bytes ≤ length lent → reading bytes ≡ None
+    → call calendar b bytes lent ≡ refusal (Err MalformedRecord) b
 
 -- a record that needs a premise, of one that is not held, gets 4
 abbrev pub CallNotHeld : Type 0
 CallNotHeld =
     (calendar : List ℕ) (b : Book) (bytes lent : List ℕ) (r : Record)
-    → book_kept b ≡ true → notice_bytes ≤ length lent → reading bytes ≡ Says r → needs_premise r ≡ true
-    → file_for r.premise (files_of b) ≡ none
-    → call calendar b bytes lent ≡ refusal NoSuchPremise b
+    → book_kept b ≡ true → notice_bytes ≤ length lent → reading bytes ≡ Some r → needs_premise r ≡ true
+    → file_for r.premise (files_of b) ≡ None
+    → call calendar b bytes lent ≡ refusal (Err NoSuchPremise) b
 
 -- A call is answered 6 exactly where its record meets row 6.
 abbrev pub AnsweredFull : Type 0
@@ -197,7 +197,7 @@ AnsweredFull =
 abbrev pub CallOnMark : Type 0
 CallOnMark =
     (calendar : List ℕ) (b : Book) (bytes lent : List ℕ) (r : Record)
-    → book_kept b ≡ true → notice_bytes ≤ length lent → reading bytes ≡ Says r → is kind_day_mark r ≡ true
+    → book_kept b ≡ true → notice_bytes ≤ length lent → reading bytes ≡ Some r → is kind_day_mark r ≡ true
     → call calendar b bytes lent ≡ on_day_mark calendar b r
 
 -- a mark on files put together tells of the first and then of the others: its notices stand in the files' order
@@ -210,7 +210,7 @@ MarkTellsInOrder =
 -- its record is the premise's own or a day mark, and is accepted: T and the file or none become what the one-premise rules give
 pub record Heard (calendar : List ℕ) (b : Book) (bytes : List ℕ) (premise : ℕ) (x : Result) : Type 0 where
   pub said : Record
-  pub says : reading bytes ≡ Says said
+  pub says : reading bytes ≡ Some said
   pub own : is kind_day_mark said ≡ false → said.premise ≡ premise
   pub answered : number x.answer ≡ 0
   pub accepted : number (step calendar (premise_state b premise) said).answer ≡ 0
@@ -218,7 +218,7 @@ pub record Heard (calendar : List ℕ) (b : Book) (bytes : List ℕ) (premise : 
 
 -- it is refused, or its record is another premise's: T and the file or none are what they were
 pub record Unheard (b : Book) (bytes : List ℕ) (premise : ℕ) (x : Result) : Type 0 where
-  pub why : number x.answer ≡ 0 → (r : Record) → reading bytes ≡ Says r → (is kind_day_mark r ≡ false) × (r.premise ≡ premise → ⊥)
+  pub why : number x.answer ≡ 0 → (r : Record) → reading bytes ≡ Some r → (is kind_day_mark r ≡ false) × (r.premise ≡ premise → ⊥)
   pub state : premise_state x.book premise ≡ premise_state b premise
 
 abbrev pub CallOnPremise : Type 0

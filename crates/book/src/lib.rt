@@ -18,7 +18,8 @@ pub struct Waiting {
     pub cancel: u16,
 }
 
-// The book, handed over by value. The first `count` places of `files` hold its files, in rising premise numbers; the others are zero.
+// The book, handed over by value. The first `count` places of `files` hold its files, in rising premise numbers; the others are zero. An
+// array with its count, and no map: nothing of a book is on a heap, and a damaged one is any number and any 64 files.
 #[derive(Clone, Copy)]
 pub struct Book {
     pub today: u16,

@@ -4,16 +4,13 @@ ghost use Rattle.book.specs.Book.{fresh_book};
 ghost use Rattle.book.specs.Promise.{Promised, Shown};
 
 use book::{Book, Reply, Waiting};
-use premise::Answer;
+use premise::{Answer, Refusal};
 
 // A fresh book. A start day above the last day starts at the last day.
 pub fn fresh(start: u16) -> Book
     ensures { result ≡ fresh_book start }
 {
-    if days::LAST_DAY < start {
-        return book_files::empty(days::LAST_DAY);
-    }
-    book_files::empty(start)
+    book_files::empty(start.min(days::LAST_DAY))
 }
 
 // How many orders wait in each open status. Document 02, change 11: "the question returns the stored four, from any book": none is counted
@@ -29,7 +26,7 @@ fn refuse(answer: Answer, b: Book) -> Reply
     ensures { result ≡ record { answer = answer; sent = 0; book = b } }
 {
     Reply {
-        answer: answer,
+        answer,
         sent: 0,
         book: b,
     }
@@ -41,22 +38,20 @@ pub fn record_call(calendar: &[u8], b: Book, bytes: &[u8], buffer: &mut [u8]) ->
     ensures { Promised calendar.now b bytes.now buffer.old result buffer.new }
 {
     if buffer.len() < book::NOTICE_BYTES {
-        return refuse(Answer::ShortBuffer, b);
+        return refuse(Err(Refusal::ShortBuffer), b);
     }
     if !book_files::book_kept(b) {
-        return refuse(Answer::NotWellKept, b);
+        return refuse(Err(Refusal::NotWellKept), b);
     }
     if bytes.len() != records::RECORD_LENGTH {
-        return refuse(Answer::MalformedRecord, b);
+        return refuse(Err(Refusal::MalformedRecord), b);
     }
     let mut answers = [0u8; 1];
     let mut counts = [0u16; 1];
     let p = book_player::play(calendar, b, bytes, &mut answers, &mut counts, buffer);
-    let last = p.last;
-    let c = p.book;
     Reply {
-        answer: last,
+        answer: p.last,
         sent: p.sent,
-        book: c,
+        book: p.book,
     }
 }

@@ -3,7 +3,7 @@
 use Prim.Native.Nat.{ℕ, suc, ◌≤◌, ◌<◌}
 use mathlib.Core.Path.{◌≡◌, refl, ap, ◌∙◌}
 use mathlib.Core.List.{List, [], ◌∷◌}
-use mathlib.Core.Option.{none}
+use Rattle.std.specs.Prelude.{None}
 use mathlib.Core.Bool.{Bool, true, false, cond}
 use native.Mathlib.Omega.{arith}
 use lib.Dec.{ltb}
@@ -46,13 +46,13 @@ module _ (d : File) (premise : ℕ) where
   pub front : (f : File) (fs : List File) → premise ≤ f.premise → before premise (f ∷ fs) ≡ 0
   front f fs h = before_here premise {f = f} {left = f ∷ fs} {rest = fs} refl h
 
-  pub file_elsewhere : (n : ℕ) (fs : List File) → Rising n fs → Elsewhere d premise fs → file_for premise fs ≡ none
+  pub file_elsewhere : (n : ℕ) (fs : List File) → Rising n fs → Elsewhere d premise fs → file_for premise fs ≡ None
   unfolding file_for
   file_elsewhere n [] r e = refl
   file_elsewhere n (f ∷ fs) r e = go (ltb f.premise premise) refl (file_elsewhere f.premise fs r.1)
     where
-      go : (a : Bool) → ltb f.premise premise ≡ a → (Elsewhere d premise fs → file_for premise fs ≡ none)
-          → file_for premise (f ∷ fs) ≡ none
+      go : (a : Bool) → ltb f.premise premise ≡ a → (Elsewhere d premise fs → file_for premise fs ≡ None)
+          → file_for premise (f ∷ fs) ≡ None
       go true t ih =
           let p = further f fs (ltb-true f.premise premise t) in
           found_tail premise f fs (λ q. omega (arith, q, ltb-true f.premise premise t))

@@ -2,7 +2,7 @@
 use Prim.Native.Nat.{ℕ, suc}
 use mathlib.Core.Path.{◌≡◌, refl, ap, ◌∙◌, sym}
 use mathlib.Core.List.{List, [], ◌∷◌}
-use mathlib.Core.Option.{none}
+use Rattle.std.specs.Prelude.{None}
 use mathlib.Core.Bool.{Bool, true, false}
 use native.Mathlib.Omega.{arith}
 use lib.Dec.{eqb, ltb}
@@ -25,13 +25,13 @@ module _ (d f : File) where
   inserted_first gs = refl
 
   -- where the premise has no file
-  pub put_elsewhere : (fs : List File) → file_for f.premise fs ≡ none → put_in f fs ≡ inserted (before f.premise fs) f fs
+  pub put_elsewhere : (fs : List File) → file_for f.premise fs ≡ None → put_in f fs ≡ inserted (before f.premise fs) f fs
   unfolding put_in inserted
   put_elsewhere [] e = refl
   put_elsewhere (g ∷ gs) e = go (ltb g.premise f.premise) (eqb g.premise f.premise) refl refl (put_elsewhere gs)
     where
       go : (a same : Bool) → ltb g.premise f.premise ≡ a → eqb g.premise f.premise ≡ same
-          → (file_for f.premise gs ≡ none → put_in f gs ≡ inserted (before f.premise gs) f gs)
+          → (file_for f.premise gs ≡ None → put_in f gs ≡ inserted (before f.premise gs) f gs)
           → put_in f (g ∷ gs) ≡ inserted (before f.premise (g ∷ gs)) f (g ∷ gs)
       go a true t q ih =
           let s = found_head f.premise g gs (eqb-true g.premise f.premise q) in

@@ -8,7 +8,7 @@ use Rattle.lists.specs.Shift.{removed}
 use Rattle.premise.specs.declared.File.{File}
 use Rattle.book.specs.Book.{file_for, taken_out}
 use Rattle.book_files.specs.Places.{before}
-use mathlib.Core.Option.{none}
+use Rattle.std.specs.Prelude.{None}
 use mathlib.Core.Bool.{Bool, true, false}
 use native.Mathlib.Numerals.{add-one}
 use lib.Dec.{eqb, ltb}
@@ -56,12 +56,12 @@ module _ (d : File) (premise : ℕ) where
           taken_same f fs e' ∙ sym (removed_first f fs) ∙ ap (λ (n : ℕ). removed n (f ∷ fs)) (sym p)
 
   -- none stands there, and none is taken out
-  pub taken_elsewhere : (fs : List File) → file_for premise fs ≡ none → taken_out premise fs ≡ fs
+  pub taken_elsewhere : (fs : List File) → file_for premise fs ≡ None → taken_out premise fs ≡ fs
   unfolding taken_out file_for
   taken_elsewhere [] e = refl
   taken_elsewhere (f ∷ fs) e = go (eqb f.premise premise) refl (taken_elsewhere fs)
     where
-      go : (a : Bool) → eqb f.premise premise ≡ a → (file_for premise fs ≡ none → taken_out premise fs ≡ fs)
+      go : (a : Bool) → eqb f.premise premise ≡ a → (file_for premise fs ≡ None → taken_out premise fs ≡ fs)
           → taken_out premise (f ∷ fs) ≡ f ∷ fs
       go true t ih = let q = found_head premise f fs (eqb-true f.premise premise t) in let z : ◌≡◌ {A = ℕ} 0 1 =
           cc (q, e) in absurd (omega (arith, z))

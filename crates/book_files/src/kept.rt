@@ -20,18 +20,15 @@ pub fn book_kept(b: Book) -> bool
     let mut last: u64 = 0;
     let mut i: usize = 0;
     'held: while i < n {
-        // The number by itself, and then the file: a number taken from the copy is copied apart, and the rest of the file misaligned.
-        let premise = b.files[i].premise;
-        if premise <= last {
+        let file = &b.files[i];
+        if file.premise <= last {
             return false;
         }
-        let f = b.files[i];
-        let test = premise_kept::file_kept(f);
-        if !test.kept {
+        let Some(counts) = premise_kept::file_kept(file) else {
             return false;
-        }
-        waiting += test.waiting;
-        last = premise;
+        };
+        waiting += counts;
+        last = file.premise;
         i += 1;
     }
     let w = b.waiting;
@@ -39,8 +36,7 @@ pub fn book_kept(b: Book) -> bool
         return false;
     }
     'unused: while i < book::MOST_FILES {
-        let f = b.files[i];
-        if !premise_kept::file_blank(f) {
+        if !premise_kept::file_blank(&b.files[i]) {
             return false;
         }
         i += 1;

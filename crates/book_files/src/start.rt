@@ -9,11 +9,11 @@ pub fn empty(today: u16) -> Book
     ensures { result ≡ book_of today [] }
 {
     let none = premise_file::blank_file();
-    let nothing = crate::waiting::nothing();
+    let waiting = crate::waiting::nothing();
     Book {
-        today: today,
+        today,
         count: 0,
-        waiting: nothing,
-        files: [none; 64],
+        waiting,
+        files: [none; book::MOST_FILES],
     }
 }

@@ -43,27 +43,23 @@ fn turned(w: Waiting, left: u8, came: u8) -> Waiting
     let scheduled = turned_total(w.scheduled, premise::SCHEDULED, left, came);
     let cancel = turned_total(w.cancel, premise::CANCEL_PENDING, left, came);
     Waiting {
-        review: review,
-        permit: permit,
-        scheduled: scheduled,
-        cancel: cancel,
+        review,
+        permit,
+        scheduled,
+        cancel,
     }
 }
 
 // The totals after a file has been stored in the place of another. One walk over the eight places, of which only those are counted whose
 // status differs: an unused place has status 0, which no total counts, and orders that are dropped or come last only shift the others.
-pub fn moved(w: Waiting, old: File, stored: File) -> Waiting
-    requires { Tidy old × Tidy stored × Counts w old }
-    ensures { result ≡ moved w old stored }
+pub fn moved(w: Waiting, old: &File, stored: &File) -> Waiting
+    requires { Tidy old.now × Tidy stored.now × Counts w old.now }
+    ensures { result ≡ moved w old.now stored.now }
 {
     let mut totals = w;
-    let mut place: usize = 0;
-    while place < premise::MOST_ORDERS {
-        let left = old.orders[place].status;
-        let came = stored.orders[place].status;
-        place += 1;
-        if left != came {
-            totals = turned(totals, left, came);
+    for (left, came) in old.orders.iter().zip(&stored.orders) {
+        if left.status != came.status {
+            totals = turned(totals, left.status, came.status);
         }
     }
     totals

@@ -7,7 +7,7 @@ use native.Mathlib.Numerals.{add-one}
 use native.Mathlib.Omega.{arith}
 use lib.Dec.{leb}
 use lib.ListN.{take, drop, length, get_or, set, length-take, length-drop, length-append}
-use lib.Seq.{take-suc, set-get_or}
+use lib.Seq.{take-suc, set-get_or, get_or-set_same}
 use borrow.Author.Tests.{leb-true}
 use Rattle.lists.specs.Search.{Each}
 use Rattle.lists.proofs.SearchLaws.{each_at, each_append}
@@ -17,15 +17,14 @@ use Rattle.days.specs.Days.{is_business_day}
 use Rattle.days.specs.Window.{most_width, LastInWindow, LastDays}
 use Rattle.records.specs.declared.Notice.{Notice}
 use Rattle.premise.specs.declared.File.{File}
-use Rattle.premise.specs.declared.FileAfter.{FileAfter}
 use Rattle.premise.specs.Orders.{in_review, permit_pending, scheduled, cancel_pending}
+use Rattle.premise.specs.Passes.{Effect}
 use Rattle.premise.specs.OnePremise.{marked}
 use Rattle.premise.specs.WellKept.{Tidy, FileKept}
-use Rattle.premise.specs.Promises.{Room, Writes, DoneToFile}
-use Rattle.premise_laws.proofs.Writes.{room_then, writes_then}
+use Rattle.premise.specs.Promises.{Room, Writes}
+use Rattle.premise_laws.proofs.Writes.{room_then, writes_none, writes_then}
 use Rattle.premise_laws.specs.Changes.{mark_changes_file}
 use Rattle.premise_laws.proofs.MarkChanges.{unchanged_stays}
-use Rattle.premise_laws.proofs.Then.{done_nothing}
 use Rattle.book.specs.declared.Book.{Book}
 use Rattle.book.specs.declared.Waiting.{Waiting}
 use Rattle.book.specs.Totals.{waiting_in, moved_total, moved, Counts}
@@ -175,12 +174,19 @@ module _ {calendar : List ℕ} {day : ℕ} {b : Book} {standing : ℕ} {buffer :
   standing_file : get_or standing_files i past ≡ get_or c.files i past
   standing_file = next_at past done (files_of b) i done-length inside ∙ sym same_file_lem
 
+  -- a file that is stored there stands there
+  mark_stored : (g : File) → get_or (set c.files i g) i past ≡ g
+  mark_stored g =
+      get_or-set_same c.files i g past
+      (subst⁻¹ (λ (fs : List File). i < length fs) (ap (λ (x : Book). x.files) m.here)
+      (omega (arith, length-append done (drop i b.files), done-length, length-drop i b.files, has_place)))
+
   -- what it asks to move them to the file that is left
-  pub mark_moves : (r : FileAfter) {last : List ℕ} → DoneToFile (marked calendar day (get_or c.files i past)) sent r after last
-      → Tidy (get_or c.files i past) × Tidy r.file × Counts c.waiting (get_or c.files i past)
-  mark_moves r did = (
+  pub mark_moves : {f : File} → f ≡ (marked calendar day (get_or c.files i past)).file
+      → Tidy (get_or c.files i past) × Tidy (get_or (set c.files i f) i past) × Counts c.waiting (get_or c.files i past)
+  mark_moves {f} left = (
     mark_tidy,
-    subst⁻¹ Tidy did.file (marked_one calendar day (get_or c.files i past) kept).kept.tidy,
+    subst⁻¹ Tidy (mark_stored f ∙ left) (marked_one calendar day (get_or c.files i past) kept).kept.tidy,
     subst⁻¹ (λ (w : Waiting). Counts w (get_or c.files i past)) standing_totals
         (subst (Counts (waiting_in standing_files)) standing_file
         (counts_at standing_files i past standing_inside standing_few standing_kept)),
@@ -195,29 +201,32 @@ module _ {calendar : List ℕ} {day : ℕ} {b : Book} {standing : ℕ} {buffer :
       ∙ ap (λ (l : List File). l ++ drop (i + 1) places) (sym done_more)
 
   -- one turn
-  pub mark_more : (r : FileAfter) {last : List ℕ} → DoneToFile (marked calendar day (get_or c.files i past)) sent r after last
-      → {totals : Waiting} → totals ≡ moved c.waiting (get_or c.files i past) r.file
-      → Marking calendar day b standing buffer (i + 1) r.sent (with_totals c c.count totals (set c.files i r.file)) last
-  mark_more r {last} raw {totals} sum =
-      let did : DoneToFile (marked calendar day file) sent r after last =
-      subst (λ (f : File). DoneToFile (marked calendar day f) sent r after last) same_file_lem raw in
+  pub mark_more : {g : File} → g ≡ (marked calendar day (get_or c.files i past)).file
+      → {now : ℕ} {last : List ℕ} → Writes sent after last now (marked calendar day (get_or c.files i past)).notices
+      → {totals : Waiting} → totals ≡ moved c.waiting (get_or c.files i past) (get_or (set c.files i g) i past)
+      → Marking calendar day b standing buffer (i + 1) now (with_totals c c.count totals (set c.files i g)) last
+  mark_more {g} left {now} {last} raw {totals} stored_sum =
+      let sum : totals ≡ moved c.waiting (get_or c.files i past) g =
+      stored_sum ∙ ap (moved c.waiting (get_or c.files i past)) (mark_stored g) in
+      let stored : g ≡ (marked calendar day file).file = subst (λ (f : File). g ≡ (marked calendar day f).file) same_file_lem left in
+      let wrote : Writes sent after last now (marked calendar day file).notices =
+      subst (λ (f : File). Writes sent after last now (marked calendar day f).notices) same_file_lem raw in
       record {
         asked = m.asked;
         within = omega arith;
         here =
-            ap (λ (x : Book). with_totals x x.count totals (set x.files i r.file)) m.here
+            ap (λ (x : Book). with_totals x x.count totals (set x.files i g)) m.here
             ∙ (λ j. record {
               today = day;
               count = b.count;
-              waiting = (sum ∙ (λ k. moved (standing_totals k) (sym standing_file k) r.file)
-                  ∙ moved_store standing_files i past r.file standing_inside
-                  ∙ ap waiting_in (stored_in (files_of b) inside r.file did.file)) j;
-              files = stored_in b.files has_place r.file did.file j;
+              waiting = (sum ∙ (λ k. moved (standing_totals k) (sym standing_file k) g)
+                  ∙ moved_store standing_files i past g standing_inside
+                  ∙ ap waiting_in (stored_in (files_of b) inside g stored)) j;
+              files = stored_in b.files has_place g stored j;
             });
         wrote =
-            subst⁻¹ (λ (l : List Notice). Writes standing buffer last r.sent l) told_more
-            (writes_then standing buffer told (marked calendar day file).notices room_more after sent m.wrote last r.sent
-            did.wrote);
+            subst⁻¹ (λ (l : List Notice). Writes standing buffer last now l) told_more
+            (writes_then standing buffer told (marked calendar day file).notices room_more after sent m.wrote last now wrote);
       }
 
   -- a turn on a file that the mark does not touch
@@ -231,4 +240,5 @@ module _ {calendar : List ℕ} {day : ℕ} {b : Book} {standing : ℕ} {buffer :
       (ap (λ (x : Bool). mark_changes_file x day last f) (sym day-kind) ∙ sym tested ∙ stays) in
       subst (λ (fs : List File). Marking calendar day b standing buffer (i + 1) sent (with_places c c.count fs) after)
       (set-get_or c.files i past)
-      (mark_more (record { file = f; sent = sent }) (done_nothing (marked calendar day f) f sent after e) (moved_nothing c.waiting f))
+      (mark_more (sym (ap (λ (x : Effect). x.file) e))
+      (subst⁻¹ (λ (x : Effect). Writes sent after after sent x.notices) e (writes_none sent after)) (moved_nothing c.waiting f ∙ ap (moved c.waiting f) (sym (mark_stored f))))

@@ -1,6 +1,6 @@
 -- A day mark on a tidy book, file by file: what it asks, what stands after some files, and at the end. Assumes nothing.
 use Prim.Native.Nat.{ℕ, ◌*◌, ◌-◌, ◌≤◌}
-use mathlib.Core.Path.{◌≡◌, sym, ap, ap₂, subst, ◌∙◌}
+use mathlib.Core.Path.{◌≡◌, sym, ap, ap₂, subst, subst⁻¹, ◌∙◌}
 use mathlib.Core.List.{List, ◌++◌, append-nil}
 use native.Mathlib.Omega.{arith}
 use lib.ListN.{take, drop, length, take-append-drop, length-map}
@@ -67,6 +67,14 @@ mark_none calendar day b standing buffer asked =
       here = λ j. record { today = day; count = b.count; waiting = totals_are b asked.0 j; files = b.files };
       wrote = writes_none standing buffer;
     }
+
+pub marking_as : {calendar : List ℕ} {day : ℕ} {b : Book} {standing : ℕ} {buffer : List ℕ} {i sent sent' : ℕ} {c c' : Book} {after after' : List ℕ}
+    → sent ≡ sent' → c ≡ c' → after ≡ after' → Marking calendar day b standing buffer i sent' c' after'
+    → Marking calendar day b standing buffer i sent c after
+marking_as {calendar} {day} {b} {standing} {buffer} {i} {sent} {sent'} {c} {c'} {after} {after'} e f g m =
+    subst⁻¹ (λ (n : ℕ). Marking calendar day b standing buffer i n c after) e
+    (subst⁻¹ (λ (x : Book). Marking calendar day b standing buffer i sent' x after) f
+    (subst⁻¹ (Marking calendar day b standing buffer i sent' c') g m))
 
 pub length_marked : (calendar : List ℕ) (day : ℕ) (xs : List File) → length (marked_files calendar day xs) ≡ length xs
 length_marked calendar day xs = length-map xs (λ (f : File). (marked calendar day f).file)

@@ -1,34 +1,56 @@
--- A file put in at a place of a tidy book, place by place: what stands when some have been stored to, and at the end. Assumes nothing.
-use Prim.Native.Nat.{ℕ, ◌+◌, ◌-◌, ◌≤◌, ◌<◌}
-use mathlib.Core.Path.{◌≡◌, ap, ap₂, ◌∙◌, sym}
-use mathlib.Core.List.{List, [], ◌++◌}
+-- A file put in at a place of a tidy book: what moving the files from there on one place up, and it in the place, leave. Assumes nothing.
+use Prim.Native.Nat.{ℕ, suc, ◌+◌, ◌-◌, ◌≤◌, ◌<◌}
+use mathlib.Core.Path.{◌≡◌, sym, ap, ap₂, ◌∙◌}
+use mathlib.Core.List.{List, [], ◌∷◌, ◌++◌, append_assoc}
+use native.Mathlib.Numerals.{add-one}
 use native.Mathlib.Omega.{arith}
-use lib.ListN.{length, take, drop, get_or, set, length-append}
-use lib.Seq.{drop_at, drop-append-add}
+use lib.ListN.{length, take, drop, get_or, set, length-append, length-drop, take-append-drop}
+use lib.Seq.{paste, set_at, take-suc, length-take-le, take-append-le, take_at, drop-append-add}
+use Rattle.std.proofs.lemmas.List.{drop-append-le}
+use Rattle.std.proofs.lemmas.List.Edits.{take-paste, drop-paste}
 use Rattle.lists.specs.Shift.{inserted}
-use Rattle.lists.proofs.Over.{over, over_start, over_end, over_at, over_set}
-use Rattle.lists.proofs.Shift.{inserted-length, inserted-take, inserted_at, inserted_next}
+use Rattle.lists.proofs.Shift.{inserted-length}
 use Rattle.premise.specs.declared.File.{File}
+use Rattle.premise.specs.Orders.{blank_file}
 use Rattle.book.specs.declared.Book.{Book}
 use Rattle.book.specs.Totals.{waiting_in}
 use Rattle.book.specs.Book.{most_files, files_of, book_of}
 use Rattle.book.specs.Laws.{TidyBook}
 use Rattle.book.proofs.Kept.{count_is}
-use Rattle.book_files.proofs.Tidy.{past, with_places, spare, spare-length, spare-drop, book_is, split, length_files}
+use Rattle.book_files.proofs.Tidy.{past, with_places, spare, book_is, split}
 
--- the places that are to be left
-abbrev grown : Book → ℕ → File → List File
-grown b at f = inserted at f (files_of b) ++ spare (most_files - (b.count + 1))
+-- the elements of a list in two parts, as a copy within it leaves them
+pub pasted : {X : Type 0} (l : List X) (at : ℕ) (s : List X) (k : ℕ) → at ≤ length l → k ≤ length s
+    → paste l at s k ≡ (take at l ++ take k s) ++ drop (at + k) l
+pasted l at s k inside few =
+    sym (take-append-drop (at + k) (paste l at s k))
+    ∙ ap₂ (λ (a b : List _). a ++ b) (take-paste l at s k inside few) (drop-paste l at s k inside few)
 
--- The places before the one reached hold what they are to hold, the others what they held; the file carried is for the place reached.
-pub record Opening (b : Book) (at : ℕ) (f : File) (c : Book) (carry : File) (i : ℕ) : Type 0 where
-  pub tidy : TidyBook b
-  pub within : at ≤ b.count
-  pub free : b.count < most_files
-  pub from : at ≤ i
-  pub upto : i ≤ b.count + 1
-  pub here : c ≡ with_places b b.count (over i (grown b at f) b.files)
-  pub next : i ≤ b.count → carry ≡ get_or (grown b at f) i past
+take_one : {X : Type 0} (d : X) (l : List X) (i : ℕ) → i < length l → take (i + 1) l ≡ take i l ++ (get_or l i d ∷ [])
+take_one d l i h = rw (add-one i, take-suc l i d h)
+
+-- the elements from a place on move up, over the first that is to go, and another takes the place
+put_in : {X : Type 0} (d : X) (at : ℕ) (l : List X) (s : X) (rest : List X) (x : X) → at ≤ length l
+    → set (paste (l ++ (s ∷ rest)) (at + 1) (drop at (l ++ (s ∷ rest))) (length l - at)) at x ≡ inserted at x l ++ rest
+unfolding inserted
+put_in {X = X} d at l s rest x h =
+    let all : List X = l ++ (s ∷ rest) in
+    let k : ℕ = length l - at in
+    let long : length all ≡ length l + suc (length rest) = length-append l (s ∷ rest) in
+    let front : take at all ≡ take at l = take-append-le at l (s ∷ rest) h in
+    let behind : drop at all ≡ drop at l ++ (s ∷ rest) = drop-append-le at l (s ∷ rest) h in
+    let moved : take k (drop at all) ≡ drop at l = ap (take k) behind ∙ take_at (drop at l) (s ∷ rest) k (length-drop at l) in
+    let end : drop (at + 1 + k) all ≡ rest =
+    ap (λ (n : ℕ). drop n all) (omega arith) ∙ drop-append-add l (s ∷ rest) 1 in
+    let first : take (at + 1) all ≡ take at l ++ (get_or all at d ∷ []) =
+    take_one d all at (omega (arith, long)) ∙ ap (λ (a : List X). a ++ (get_or all at d ∷ [])) front in
+    ap (λ (p : List X). set p at x)
+    (pasted all (at + 1) (drop at all) k (omega (arith, long)) (omega (arith, long, length-drop at all))
+    ∙ (λ i. (first i ++ moved i) ++ end i)
+    ∙ ap (λ (p : List X). p ++ rest) (append_assoc (take at l) (get_or all at d ∷ []) (drop at l))
+    ∙ append_assoc (take at l) (get_or all at d ∷ drop at l) rest)
+    ∙ set_at (take at l) (get_or all at d) (drop at l ++ rest) x at (length-take-le at l h)
+    ∙ sym (append_assoc (take at l) (x ∷ drop at l) rest)
 
 module _ (b : Book) (tidy : TidyBook b) (at : ℕ) (f : File) (h : at ≤ b.count) (free : b.count < most_files) where
   inside : at ≤ length (files_of b)
@@ -37,76 +59,22 @@ module _ (b : Book) (tidy : TidyBook b) (at : ℕ) (f : File) (h : at ≤ b.coun
   grown_count : length (inserted at f (files_of b)) ≡ b.count + 1
   grown_count = inserted-length past at (files_of b) [] [] inside f ∙ ap (λ (n : ℕ). n + 1) (count_is b tidy)
 
-  grown-length : length (grown b at f) ≡ most_files
-  grown-length =
-      length-append (inserted at f (files_of b)) (spare (most_files - (b.count + 1)))
-      ∙ omega (arith, grown_count, spare-length (most_files - (b.count + 1)))
+  -- the places with an unused one behind the files
+  with_free : b.files ≡ files_of b ++ (blank_file ∷ spare (most_files - (b.count + 1)))
+  unfolding spare
+  with_free =
+      let e : most_files - b.count ≡ suc (most_files - (b.count + 1)) = omega arith in
+      split b tidy ∙ ap (λ (n : ℕ). files_of b ++ spare n) e
 
-  grown-drop : drop (b.count + 1) (grown b at f) ≡ drop (b.count + 1) b.files
-  grown-drop =
-      let e : most_files - b.count - 1 ≡ most_files - (b.count + 1) = omega arith in
-      let n : length (files_of b) + 1 ≡ b.count + 1 = omega (arith, count_is b tidy) in
-      drop_at (inserted at f (files_of b)) (spare (most_files - (b.count + 1))) (b.count + 1) grown_count
-      ∙ sym
-      (ap (drop (b.count + 1)) (split b tidy)
-      ∙ ap (λ (m : ℕ). drop m (files_of b ++ spare (most_files - b.count))) (sym n)
-      ∙ drop-append-add (files_of b) (spare (most_files - b.count)) 1
-      ∙ spare-drop (most_files - b.count) 1
-      ∙ ap spare e)
-
-  pub open_none : Opening b at f b f at
-  open_none =
-      record {
-        tidy = tidy;
-        within = h;
-        free = free;
-        from = omega arith;
-        upto = omega (arith, h);
-        here =
-            ap (with_places b b.count)
-            (sym
-            (over_start past (grown b at f) b.files at
-            (inserted-take past at (files_of b) (spare (most_files - (b.count + 1))) (spare (most_files - b.count)) inside f
-            ∙ ap (take at) (sym (split b tidy)))));
-        next = λ _. sym (inserted_at past at (files_of b) (spare (most_files - (b.count + 1))) [] inside f);
-      }
-
-module _ {b : Book} {at : ℕ} {f : File} {c : Book} {carry : File} {i : ℕ} (o : Opening b at f c carry i) where
-  long : length (grown b at f) ≡ most_files
-  long = grown-length b o.tidy at f o.within o.free
-
-  -- a turn stores the file carried, and carries on the one that stood there
-  pub open_more : i ≤ b.count
-      → Opening b at f (with_places c c.count (set c.files i carry)) (get_or c.files i past) (i + 1)
-  open_more h =
-      record {
-        tidy = o.tidy;
-        within = o.within;
-        free = o.free;
-        from = omega (arith, o.from);
-        upto = omega (arith, h);
-        here =
-            ap₂ (λ (x : Book) (g : File). with_places x x.count (set x.files i g)) o.here (o.next h)
-            ∙ ap (with_places b b.count)
-            (over_set past (grown b at f) b.files i (omega (arith, h, o.free, length_files b o.tidy))
-            (omega (arith, h, o.free, long)));
-        next = λ more.
-            ap (λ (x : Book). get_or x.files i past) o.here
-            ∙ over_at past (grown b at f) b.files i i (omega arith) (omega (arith, h, o.free, long))
-            ∙ ap (λ (fs : List File). get_or fs i past) (split b o.tidy)
-            ∙ sym (inserted_next past at (files_of b) (spare (most_files - (b.count + 1))) (spare (most_files - b.count))
-            (inside b o.tidy at f o.within o.free) f i o.from (omega (arith, more, count_is b o.tidy)));
-      }
-
-  -- all places have been stored to: the file is put in, and moves no total
-  pub open_book : b.count < i → b.waiting ≡ waiting_in (inserted at f (files_of b))
-      → with_places c (b.count + 1) c.files ≡ book_of b.today (inserted at f (files_of b))
-  open_book h totals =
-      let all : i ≡ b.count + 1 = omega (arith, h, o.upto) in
-      let count = grown_count b o.tidy at f o.within o.free in
-      ap (λ (x : Book). with_places x (b.count + 1) x.files) o.here
-      ∙ ap (λ (n : ℕ). with_places b (b.count + 1) (over n (grown b at f) b.files)) all
-      ∙ ap (with_places b (b.count + 1))
-      (over_end past (grown b at f) b.files (b.count + 1) (grown-drop b o.tidy at f o.within o.free))
-      ∙ book_is b.today (b.count + 1) b.waiting (grown b at f) (inserted at f (files_of b)) (sym count) totals
-      (ap (λ (n : ℕ). inserted at f (files_of b) ++ spare (most_files - n)) (sym count))
+  -- the file is put in, and moves no total
+  pub opened : (l : List File) → l ≡ paste b.files (at + 1) (drop at b.files) (b.count - at)
+      → b.waiting ≡ waiting_in (inserted at f (files_of b))
+      → with_places b (b.count + 1) (set l at f) ≡ book_of b.today (inserted at f (files_of b))
+  opened l moved totals =
+      let rest = spare (most_files - (b.count + 1)) in
+      let places : set l at f ≡ inserted at f (files_of b) ++ rest =
+      ap (λ (x : List File). set x at f) moved
+      ∙ (λ i. set (paste (with_free i) (at + 1) (drop at (with_free i)) (sym (count_is b tidy) i - at)) at f)
+      ∙ put_in past at (files_of b) blank_file rest f inside in
+      book_is b.today (b.count + 1) b.waiting (set l at f) (inserted at f (files_of b)) (sym grown_count) totals
+      (places ∙ ap (λ (n : ℕ). inserted at f (files_of b) ++ spare (most_files - n)) (sym grown_count))

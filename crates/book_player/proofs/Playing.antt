@@ -1,7 +1,7 @@
 -- The loop over the records of a stretch of tape: some are played and noted, and the course of those that are left is the rest of the
 -- whole. Assumes nothing.
 use Prim.Native.Nat.{ℕ, ◌+◌, ◌*◌, ◌-◌, ◌≤◌, ◌<◌, min}
-use mathlib.Core.Path.{◌≡◌, refl, sym, ap, ap₂, subst, subst⁻¹, ◌∙◌}
+use mathlib.Core.Path.{◌≡◌, refl, sym, ap, ap₂, subst⁻¹, ◌∙◌}
 use mathlib.Core.List.{List, [], ◌∷◌, ◌++◌, append_assoc, append-nil, map-append}
 use mathlib.Core.Bool.{Bool, true, false}
 use native.Mathlib.Omega.{arith}
@@ -13,8 +13,8 @@ use Rattle.lists.proofs.Over.{next_stored}
 use Rattle.lists.proofs.Find.{drop-none}
 use Rattle.records.specs.declared.Notice.{Notice}
 use Rattle.records.specs.Layout.{record_length}
-use Rattle.premise.specs.declared.Answer.{Answer}
-use Rattle.premise.specs.declared.Answer.TheVariants.{Accepted}
+use Rattle.std.specs.Prelude.{Ok}
+use Rattle.premise.specs.Refusals.{Answer}
 use Rattle.premise.specs.Refusals.{number}
 use Rattle.premise.specs.Promises.{Writes}
 use Rattle.premise_laws.proofs.Writes.{writes_none, writes_then, writes_length}
@@ -80,7 +80,7 @@ pub record Playing (calendar tape : List ℕ) (b : Book) (answers₀ counts₀ n
   pub few : played ≤ length answers₀
   pub room : record_length * sent ≤ length notices₀
   pub count : played ≡ length results
-  pub ended : last ≡ last_answer Accepted results
+  pub ended : last ≡ last_answer (Ok tt) results
   pub answered : Noted (answers_of results) answers₀ answers
   pub counted : Noted (counts_of results) counts₀ counts
   pub wrote : Writes 0 notices₀ notices sent (notices_of results)
@@ -90,7 +90,7 @@ pub record Playing (calendar tape : List ℕ) (b : Book) (answers₀ counts₀ n
 
 pub playing_none : (calendar tape : List ℕ) (b : Book) (answers counts notices : List ℕ) → BookKept b
     → length answers ≤ length counts
-    → Playing calendar tape b answers counts notices answers counts notices b 0 0 0 Accepted
+    → Playing calendar tape b answers counts notices answers counts notices b 0 0 0 (Ok tt)
 playing_none calendar tape b answers counts notices k fit =
     let all : length notices - record_length * 0 ≡ length notices = omega arith in
     let most : length answers - 0 ≡ length answers = omega arith in
@@ -143,7 +143,7 @@ module _ {calendar tape : List ℕ} {b : Book} {answers₀ counts₀ notices₀ 
       record {
         book = sym (ap (λ (x : Course). x.book) whole);
         played = p.count ∙ ap length (sym all);
-        last = p.ended ∙ ap (last_answer Accepted) (sym all);
+        last = p.ended ∙ ap (last_answer (Ok tt)) (sym all);
         answers = subst⁻¹ (λ (l : List Result). Noted (answers_of l) answers₀ answers) all p.answered;
         counts = subst⁻¹ (λ (l : List Result). Noted (counts_of l) counts₀ counts) all p.counted;
         notices = writes_emits notices₀ notices sent _
@@ -230,7 +230,7 @@ module _ {calendar tape : List ℕ} {b : Book} {answers₀ counts₀ notices₀ 
             few = omega (arith, more, answers-length);
             room = omega (arith, sent_more, called_few calendar c bytes, room, notices_length, p.room);
             count = ap (λ (n : ℕ). n + 1) p.count ∙ sym (length-append p.results (result ∷ []));
-            ended = made.answer ∙ sym (last_more Accepted p.results result);
+            ended = made.answer ∙ sym (last_more (Ok tt) p.results result);
             answered = subst⁻¹ (λ (l : List ℕ). Noted l answers₀ (set answers played answer))
                 (answers_more p.results result ∙ ap (λ (n : ℕ). answers_of p.results ++ (n ∷ [])) one)
                 (noted_more (answers_of p.results) answers₀ answers played answer p.answered noted

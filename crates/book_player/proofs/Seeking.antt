@@ -1,66 +1,91 @@
--- The search for a premise among the files of a tidy book: a turn, and what is known where it ends. Assumes nothing.
-use Prim.Native.Nat.{ℕ, ◌+◌, ◌≤◌, ◌<◌}
-use mathlib.Core.Path.{◌≡◌, sym, ap, ◌∙◌}
-use mathlib.Core.List.{◌∷◌}
+-- What the search for a premise among the files of a tidy book finds. Assumes nothing.
+use Prim.Native.Nat.{ℕ, zero, suc, ◌≤◌, ◌<◌}
+use mathlib.Core.Path.{◌≡◌, refl, sym, ap, ◌∙◌}
+use mathlib.Core.List.{List, [], ◌∷◌}
+use mathlib.Core.Bool.{Bool, true, false}
 use native.Mathlib.Omega.{arith}
-use lib.ListN.{drop, get_or}
-use Rattle.lists.proofs.Find.{drop_part, part_none}
+use lib.Dec.{leb, ltb}
+use lib.ListN.{length, get_or}
+use denote.Ref.{Bor}
+use Rattle.std.specs.Prelude.{Option, Some, None}
+use Rattle.std.specs.Option.{MatchOption}
+use Rattle.std.specs.Slice.{IsItemAt}
+use Rattle.std.specs.List.Sorted.{IsNonDecreasingBy, IsPartitionedBy, IsPartitionPoint}
+use Rattle.std.proofs.lemmas.List.Sorted.{IsPartitionedBy-ltb}
+use borrow.Author.Tests.{leb-true, leb-false, ltb-true, ltb-false}
+use Rattle.lists.proofs.TestLaws.{by_test}
 use Rattle.premise.specs.declared.File.{File}
 use Rattle.book.specs.declared.Book.{Book}
+use Rattle.book.specs.Laws.{BookKept}
+use Rattle.book.proofs.Files.{Rising, rises_rising}
 use Rattle.book.specs.Book.{files_of}
-use Rattle.book.specs.Laws.{TidyBook}
-use Rattle.book.proofs.Kept.{count_is}
 use Rattle.book_files.specs.Places.{before}
 use Rattle.book_files.proofs.Before.{Here, Elsewhere, before_here, before_next}
-use Rattle.book_files.proofs.Tidy.{past, at_file, length_files}
+use Rattle.book_files.proofs.Tidy.{past}
 
--- The files before the place reached stand before the premise's, so that the number read last is not its own. (0 is no premise's.)
-pub record Seeking (premise : ℕ) (b : Book) (at there : ℕ) : Type 0 where
-  pub within : at ≤ b.count
-  pub passed : before premise (files_of b) ≡ at + before premise (drop at (files_of b))
-  pub below : 0 < premise → there < premise
-
--- The place reached is the premise's, and the number read last is its own exactly if the file there is.
+-- The place reached is the premise's, and the number that stands there is its own exactly if the file there is. (0 is no premise's, and
+-- stands for no file.)
 pub record Sought (premise : ℕ) (b : Book) (at there : ℕ) : Type 0 where
   pub place : at ≡ before premise (files_of b)
   pub held : 0 < premise → there ≡ premise → Here past premise (files_of b)
   pub free : (there ≡ premise → ⊥) → Elsewhere past premise (files_of b)
 
-pub seek_none : (premise : ℕ) (b : Book) → Seeking premise b 0 0
-seek_none premise b = record { within = omega arith; passed = omega arith; below = λ h. h }
+-- where the numbers before a place are below the premise's, and the one at it is not
+before_is : (premise : ℕ) (fs : List File) (at : ℕ) → at ≤ length fs → ((k : ℕ) → k < at → (get_or fs k past).premise < premise)
+    → (at < length fs → premise ≤ (get_or fs at past).premise) → at ≡ before premise fs
+before_is premise [] at inside below above = omega arith
+before_is premise (f ∷ fs) zero inside below above =
+    sym (before_here premise {f = f} {left = f ∷ fs} {rest = fs} refl (above (omega arith)))
+before_is premise (f ∷ fs) (suc at) inside below above =
+    ap suc (before_is premise fs at (omega arith) (λ k h. below (suc k) (omega arith)) (λ h. above (omega arith)))
+    ∙ sym (before_next premise {f = f} {left = f ∷ fs} {rest = fs} refl (below 0 (omega arith)))
 
-module _ {premise : ℕ} {b : Book} (tidy : TidyBook b) {at there : ℕ} (s : Seeking premise b at there) where
-  -- no file is left
-  pub seek_end : b.count ≤ at → {read : ℕ} → read ≡ there → Sought premise b at read
-  seek_end end {read} same =
-      let none = ap (before premise) (part_none b.files b.count at end) in
-      record {
-        place = omega (arith, s.passed, none);
-        held = λ h own. absurd (omega (arith, s.below h, own, same));
-        free = λ _ i. absurd (omega (arith, i, s.passed, none, count_is b tidy, end));
-      }
+-- the numbers rise
+above : (n : ℕ) (fs : List File) → Rising n fs → (j : ℕ) (d : File) → j < length fs → n < (get_or fs j d).premise
+above n [] r j d h = absurd (omega arith)
+above n (f ∷ fs) r zero d h = r.0
+above n (f ∷ fs) r (suc j) d h = let m = above f.premise fs r.1 j d (omega arith) in omega (arith, m, r.0)
 
-  module _ (h : at < b.count) where
-    -- the file reached and those behind it
-    rest : drop at (files_of b) ≡ get_or b.files at past ∷ drop (at + 1) (files_of b)
-    rest = drop_part past b.files b.count at (omega (arith, length_files b tidy, tidy.few)) h
+rising_up : (n : ℕ) (fs : List File) → Rising n fs → IsNonDecreasingBy (λ (f : File). f.premise) fs
+rising_up n [] r i j d le lt = absurd (omega arith)
+rising_up n (f ∷ fs) r zero zero d le lt = omega arith
+rising_up n (f ∷ fs) r zero (suc j) d le lt = let m = above f.premise fs r.1 j d (omega arith) in omega (arith, m)
+rising_up n (f ∷ fs) r (suc i) zero d le lt = absurd (omega arith)
+rising_up n (f ∷ fs) r (suc i) (suc j) d le lt = rising_up f.premise fs r.1 i j d (omega arith) (omega arith)
 
-    pub seek_more : (get_or b.files at past).premise < premise → Seeking premise b (at + 1) (get_or b.files at past).premise
-    seek_more less =
-        record {
-          within = omega (arith, h);
-          passed = omega (arith, s.passed, before_next premise rest less);
-          below = λ _. less;
-        }
+-- so that a search by halves finds the place
+pub halves : (premise : ℕ) (b : Book) → BookKept b → IsPartitionedBy (λ (f : File). ltb f.premise premise) (files_of b)
+halves premise b k =
+    IsPartitionedBy-ltb (λ (f : File). f.premise) (files_of b) premise (rising_up 0 (files_of b) (rises_rising 0 (files_of b) k.rising))
 
-    pub seek_here : premise ≤ (get_or b.files at past).premise → {read : ℕ} → read ≡ (get_or b.files at past).premise
-        → Sought premise b at read
-    seek_here reached {read} same =
-        let place : at ≡ before premise (files_of b) = omega (arith, s.passed, before_here premise rest reached) in
-        let number : read ≡ (get_or (files_of b) (before premise (files_of b)) past).premise =
-        same ∙ ap (λ (f : File). f.premise) (at_file b at h) ∙ ap (λ (i : ℕ). (get_or (files_of b) i past).premise) place in
-        record {
-          place = place;
-          held = λ _ own. (omega (arith, h, place, count_is b tidy), sym number ∙ own);
-          free = λ other _ own. other (number ∙ own);
-        }
+-- the number read at a place; 0 where no file stands there
+abbrev Reads : List File → ℕ → ℕ → Type 0
+Reads fs at there = (at < length fs → there ≡ (get_or fs at past).premise) × (length fs ≤ at → there ≡ 0)
+
+pub reads : (fs : List File) (at there : ℕ) (got : Option (Bor File)) {Post : Bor File → Type 0} → IsItemAt fs at got
+    → MatchOption got (there ≡ 0) Post → ((x : Bor File) → Post x → there ≡ x.now.premise) → Reads fs at there
+reads fs at there None item m e = ((λ h. absurd (omega (arith, h, item.3))), λ _. m)
+reads fs at there (Some x) item m e = (
+  (λ _. e x m ∙ ap (λ (f : File). f.premise) (item.4 (omega arith) past)),
+  λ h. absurd (omega (arith, h, item.3.0)),
+)
+
+pub sought : (premise : ℕ) (b : Book) (at there : ℕ) → at ≤ length (files_of b)
+    → IsPartitionPoint (λ (f : File). ltb f.premise premise ≡ true) (λ (f : File). ltb f.premise premise ≡ false) (files_of b) at
+    → Reads (files_of b) at there → Sought premise b at there
+sought premise b at there inside point read =
+    let place : at ≡ before premise (files_of b) =
+    before_is premise (files_of b) at inside (λ k h. ltb-true _ premise (point.0 k past (omega arith) h))
+    (λ h. ltb-false _ premise (point.1 at past (omega arith) h)) in
+    let number : at < length (files_of b) → there ≡ (get_or (files_of b) (before premise (files_of b)) past).premise =
+    λ h. read.0 h ∙ ap (λ (i : ℕ). (get_or (files_of b) i past).premise) place in
+    record {
+      place = place;
+      held = λ some is.
+          let within : at < length (files_of b) =
+          by_test (λ (_ : Bool). at < length (files_of b)) (leb (length (files_of b)) at) true false
+          (λ past_all. absurd (omega (arith, some, is, read.1 (leb-true (length (files_of b)) at past_all))))
+          (λ inside_all. leb-false (length (files_of b)) at inside_all) in
+          (omega (arith, within, place), sym (number within) ∙ is);
+      free = λ other h is. other (number (omega (arith, h, place)) ∙ is);
+    }

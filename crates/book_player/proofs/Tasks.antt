@@ -2,7 +2,7 @@
 use Prim.Native.Nat.{ℕ, ◌+◌, ◌<◌}
 use mathlib.Core.Path.{◌≡◌, refl, sym, ap, ap₂, subst, subst⁻¹, ◌∙◌}
 use mathlib.Core.List.{List, []}
-use mathlib.Core.Option.{Option, none, some}
+use Rattle.std.specs.Prelude.{Option, Some, None}
 use mathlib.Core.Bool.{Bool, true, false, cond, not, ◌&&◌}
 use native.Mathlib.Omega.{arith}
 use lib.Dec.{eqb}
@@ -13,13 +13,12 @@ use Rattle.lists.specs.Search.{any_of}
 use Rattle.lists.specs.Shift.{inserted, removed}
 use Rattle.lists.proofs.TestLaws.{by_test}
 use Rattle.records.specs.declared.Record.{Record}
-use Rattle.records.specs.declared.Reading.{Reading}
-use Rattle.records.specs.declared.Reading.TheVariants.{Malformed, Says}
 use Rattle.records.specs.Records.{reading, kind_create, kind_retire, kind_day_mark}
 use Rattle.records.proofs.Readings.{says}
 use Rattle.premise.specs.declared.File.{File}
-use Rattle.premise.specs.declared.Answer.{Answer}
-use Rattle.premise.specs.declared.Answer.TheVariants.{Accepted, NoSuchPremise, PremiseHeld, BookFull, OrderOpen, NotNextDay}
+use Rattle.std.specs.Prelude.{Ok, Err}
+use Rattle.premise.specs.Refusals.{Answer}
+use Rattle.premise.specs.declared.Refusal.TheVariants.{NoSuchPremise, PremiseHeld, BookFull, OrderOpen, NotNextDay}
 use Rattle.premise.specs.Orders.{is_open, held}
 use Rattle.premise.specs.Steps.{is, new_file}
 use Rattle.premise.specs.Refusals.{is_held, needs_premise}
@@ -62,7 +61,7 @@ module _ (bytes : List ℕ) (b : Book) (well : book_kept b ≡ true) where
   counted : length (files_of b) ≡ b.count
   counted = count_is b kept.tidy
 
-  module _ (r : Record) (e : reading bytes ≡ Says r) where
+  module _ (r : Record) (e : reading bytes ≡ Some r) where
     -- ---- a premise whose file stands at the place
     module _ (at : ℕ) (place : at ≡ before r.premise (files_of b)) (here : Here past r.premise (files_of b)) where
       within : at < b.count
@@ -74,21 +73,21 @@ module _ (bytes : List ℕ) (b : Book) (well : book_kept b ≡ true) where
       file_is : get_or (files_of b) at past ≡ get_or b.files at past
       file_is = get_or-take b.count b.files at past within
 
-      found : file_for r.premise (files_of b) ≡ some (get_or b.files at past)
-      found = found_at past r.premise 0 (files_of b) rising at (omega (arith, within, counted)) own ∙ ap some file_is
+      found : file_for r.premise (files_of b) ≡ Some (get_or b.files at past)
+      found = found_at past r.premise 0 (files_of b) rising at (omega (arith, within, counted)) own ∙ ap Some file_is
 
       abbrev file : File
       file = get_or b.files at past
 
       -- what the one-premise rules give on it
-      on_it_lem : (calendar : List ℕ) {given : Given} → given_on calendar b.today (some file) r ≡ given
+      on_it_lem : (calendar : List ℕ) {given : Given} → given_on calendar b.today (Some file) r ≡ given
           → step calendar (premise_state b r.premise) r ≡ given
       on_it_lem calendar s = ap (λ (x : Option File). given_on calendar b.today x r) found ∙ s
 
       -- where they refuse
       refused_there : (answer : Answer) → is kind_day_mark r ≡ false
-          → ((calendar : List ℕ) → given_on calendar b.today (some file) r
-          ≡ refused answer (record { today = b.today; file = some file }))
+          → ((calendar : List ℕ) → given_on calendar b.today (Some file) r
+          ≡ refused answer (record { today = b.today; file = Some file }))
           → (calendar : List ℕ) → called calendar b bytes ≡ refusal answer b
       refused_there answer other s calendar =
           call_one_refused calendar b bytes lent r kept called_room e other (not_new b r file found) answer
@@ -99,7 +98,7 @@ module _ (bytes : List ℕ) (b : Book) (well : book_kept b ≡ true) where
       create_refused create =
           let kind = eqb-true r.kind kind_create create in
           record {
-            result = refused_there PremiseHeld (ne_eqb r.kind kind_day_mark (λ q. omega (arith, q, kind)))
+            result = refused_there (Err PremiseHeld) (ne_eqb r.kind kind_day_mark (λ q. omega (arith, q, kind)))
                 (λ calendar. create_held calendar b.today r file kind);
           }
 
@@ -108,19 +107,19 @@ module _ (bytes : List ℕ) (b : Book) (well : book_kept b ≡ true) where
         not_mark : is kind_day_mark r ≡ false
         not_mark = ne_eqb r.kind kind_day_mark (λ q. omega (arith, q, retire))
 
-        taken : book_of b.today (with_file r.premise none (files_of b)) ≡ book_of b.today (removed at (files_of b))
+        taken : book_of b.today (with_file r.premise None (files_of b)) ≡ book_of b.today (removed at (files_of b))
         taken = ap (book_of b.today) (taken_here past r.premise (files_of b) here.0 here.1
             ∙ ap (λ (i : ℕ). removed i (files_of b)) (sym place))
 
         retired : (calendar : List ℕ) (one : Bool) → any_of is_open (held file) ≡ one
-            → called calendar b bytes ≡ cond one (refusal OrderOpen b)
-            (record { answer = Accepted; notices = []; book = book_of b.today (removed at (files_of b)) })
-        retired calendar true t = refused_there OrderOpen not_mark
+            → called calendar b bytes ≡ cond one (refusal (Err OrderOpen) b)
+            (record { answer = Ok tt; notices = []; book = book_of b.today (removed at (files_of b)) })
+        retired calendar true t = refused_there (Err OrderOpen) not_mark
             (λ calendar'. retire_open calendar' b.today file r retire t) calendar
         retired calendar false t =
             call_one calendar b bytes lent r kept called_room e not_mark (not_new b r file found)
             ∙ ap (in_book b r.premise) (on_it_lem calendar (retire_done calendar b.today file r retire t))
-            ∙ ap {B = Result} (λ (c : Book). record { answer = Accepted; notices = []; book = c }) taken
+            ∙ ap {B = Result} (λ (c : Book). record { answer = Ok tt; notices = []; book = c }) taken
 
         pub closes : KnownCloses bytes b past at
         closes = record { within = within; result = λ calendar. retired calendar (any_of is_open (held file)) refl }
@@ -138,7 +137,7 @@ module _ (bytes : List ℕ) (b : Book) (well : book_kept b ≡ true) where
 
     -- ---- a premise that is not held
     module _ (at : ℕ) (place : at ≡ before r.premise (files_of b)) (out : Elsewhere past r.premise (files_of b)) where
-      absent : file_for r.premise (files_of b) ≡ none
+      absent : file_for r.premise (files_of b) ≡ None
       absent = file_elsewhere past r.premise 0 (files_of b) rising out
 
       pub needs_refused : needs_premise r ≡ true → Known bytes b past (Refused NoSuchPremise)
@@ -149,7 +148,7 @@ module _ (bytes : List ℕ) (b : Book) (well : book_kept b ≡ true) where
         not_a_mark = ne_eqb r.kind kind_day_mark (λ q. omega (arith, q, create))
 
         -- row 6, by the count
-        full_is : meets_row6 b (Says r) ≡ eqb b.count most_files
+        full_is : meets_row6 b (Some r) ≡ eqb b.count most_files
         full_is =
             ap₂ (λ (x : Option File) (n : ℕ). is kind_create r && not (is_held x) && eqb n most_files) absent counted
             ∙ ap (λ (a : Bool). a && true && eqb b.count most_files) (eq-eqb r.kind kind_create create)
@@ -157,7 +156,7 @@ module _ (bytes : List ℕ) (b : Book) (well : book_kept b ≡ true) where
         pub full : eqb b.count most_files ≡ true → Known bytes b past (Refused BookFull)
         full t = record { result = λ calendar. call_full calendar b bytes lent r kept called_room e (full_is ∙ t) }
 
-        put_there : book_of b.today (with_file r.premise (some (new_file r)) (files_of b))
+        put_there : book_of b.today (with_file r.premise (Some (new_file r)) (files_of b))
             ≡ book_of b.today (inserted at (new_file r) (files_of b))
         put_there = ap (book_of b.today) (put_elsewhere past (new_file r) (files_of b) absent
             ∙ ap (λ (i : ℕ). inserted i (new_file r) (files_of b)) (sym place))
@@ -171,7 +170,7 @@ module _ (bytes : List ℕ) (b : Book) (well : book_kept b ≡ true) where
                   call_one calendar b bytes lent r kept called_room e not_a_mark (full_is ∙ t)
                   ∙ ap (in_book b r.premise)
                   (ap (λ (x : Option File). given_on calendar b.today x r) absent ∙ create_done calendar b.today r create)
-                  ∙ ap {B = Result} (λ (c : Book). record { answer = Accepted; notices = []; book = c }) put_there;
+                  ∙ ap {B = Result} (λ (c : Book). record { answer = Ok tt; notices = []; book = c }) put_there;
             }
 
     -- ---- by what is found: the premise is held exactly if the number at its place is its own
@@ -203,17 +202,17 @@ module _ (bytes : List ℕ) (b : Book) (well : book_kept b ≡ true) where
     of_mark : is kind_day_mark r ≡ true → Known bytes b past (on_mark b.today r.day)
     of_mark mark =
         let by-day : (calendar : List ℕ) (next : Bool) → eqb r.day (b.today + 1) ≡ next
-        → called calendar b bytes ≡ cond next (marked_book calendar b r.day) (refusal NotNextDay b) =
+        → called calendar b bytes ≡ cond next (marked_book calendar b r.day) (refusal (Err NotNextDay) b) =
         λ calendar next t. call_on_mark calendar b bytes lent r well called_room e mark
-        ∙ ap (λ (a : Bool). cond a (marked_book calendar b r.day) (refusal NotNextDay b)) t in
+        ∙ ap (λ (a : Bool). cond a (marked_book calendar b r.day) (refusal (Err NotNextDay) b)) t in
         by_test (Known bytes b past) (eqb r.day (b.today + 1)) (NextDay r.day) (Refused NotNextDay)
         (λ next. record { result = λ calendar. by-day calendar true next })
         (λ other. record { result = λ calendar. by-day calendar false other })
 
-  of_reading : {at there : ℕ} (d : Reading) → reading bytes ≡ d → Sought (premise_in d) b at there
+  of_reading : {at there : ℕ} (d : Option Record) → reading bytes ≡ d → Sought (premise_in d) b at there
       → Known bytes b past (task_of b.today b.count at there d)
-  of_reading Malformed e s = record { result = λ calendar. call_malformed calendar b bytes lent well called_room e }
-  of_reading {at} {there} (Says r) e s =
+  of_reading None e s = record { result = λ calendar. call_malformed calendar b bytes lent well called_room e }
+  of_reading {at} {there} (Some r) e s =
       by_test (Known bytes b past) (is kind_create r) (on_new r b.count at there)
       (cond (needs_premise r) (on_held r at there) (on_mark b.today r.day))
       (λ create. of_new r e s create)
@@ -222,7 +221,7 @@ module _ (bytes : List ℕ) (b : Book) (well : book_kept b ≡ true) where
       (λ neither. of_mark r e (else_mark r (says bytes r e).formed other neither)))
 
   -- The dispatch on a well_kept book tells what is so.
-  pub task_known : {d : Reading} → d ≡ reading bytes → {premise at there : ℕ} → premise ≡ premise_in d → Sought premise b at there
+  pub task_known : {d : Option Record} → d ≡ reading bytes → {premise at there : ℕ} → premise ≡ premise_in d → Sought premise b at there
       → {task : Task} → task ≡ task_of b.today b.count at there d → Known bytes b past task
   task_known {d} read {at = at} {there = there} names s done =
       subst⁻¹ (Known bytes b past) done (of_reading d (sym read) (subst (λ (n : ℕ). Sought n b at there) names s))

@@ -2,11 +2,11 @@
 use Prim.Native.Nat.{ℕ, ◌+◌, ◌*◌, ◌-◌, ◌≤◌, ◌<◌}
 use mathlib.Core.Path.{◌≡◌, refl, sym, ap, subst, subst⁻¹, ◌∙◌}
 use mathlib.Core.List.{List, []}
-use mathlib.Core.Option.{some}
+use Rattle.std.specs.Prelude.{Some}
 use mathlib.Core.Bool.{Bool, true, false, cond}
 use native.Mathlib.Omega.{arith}
-use lib.ListN.{length, get_or, set, replicate}
-use lib.Seq.{get_or-take}
+use lib.ListN.{length, drop, get_or, set, replicate}
+use lib.Seq.{paste, get_or-take, get_or-set_same}
 use Rattle.lists.specs.Search.{any_of}
 use Rattle.lists.specs.Shift.{inserted, removed}
 use Rattle.lists.proofs.SearchLaws.{each_at}
@@ -14,14 +14,15 @@ use Rattle.records.specs.declared.Record.{Record}
 use Rattle.records.specs.Layout.{record_length}
 use Rattle.records.proofs.Readings.{says}
 use Rattle.premise.specs.declared.File.{File}
-use Rattle.premise.specs.declared.PremiseAfter.{PremiseAfter}
-use Rattle.premise.specs.declared.Answer.{Answer}
-use Rattle.premise.specs.declared.Answer.TheVariants.{Accepted, OrderOpen}
+use Rattle.std.specs.Prelude.{Ok, Err}
+use Rattle.premise.specs.Refusals.{Answer}
+use Rattle.premise.specs.declared.Refusal.{Refusal}
+use Rattle.premise.specs.declared.Refusal.TheVariants.{OrderOpen}
 use Rattle.premise.specs.Orders.{is_open, held, blank_file}
 use Rattle.premise.specs.Steps.{new_file}
 use Rattle.premise.specs.WellKept.{Tidy, FileKept}
 use Rattle.premise.specs.OnePremise.{given_on}
-use Rattle.premise.specs.Promises.{Writes, OnFile, StaysHeld, Answered}
+use Rattle.premise.specs.Promises.{Room, Writes, StaysHeld}
 use Rattle.premise.proofs.KindsOf.{needs_no_mark}
 use Rattle.premise_laws.proofs.Few.{step_few}
 use Rattle.premise_laws.proofs.Writes.{writes_none}
@@ -35,16 +36,16 @@ use Rattle.book.specs.Laws.{BookKept, StoresFile}
 use Rattle.book.proofs.Kept.{count_is, book_kept_means}
 use Rattle.book.proofs.OnHeld.{call_on_held}
 use Rattle.book.proofs.CallsInRow.{called_room}
-use Rattle.book_files.proofs.Tidy.{past, with_totals, with_places}
+use Rattle.book_files.proofs.Tidy.{past, with_totals, with_places, length_files}
 use Rattle.book_files.proofs.Moves.{place_counted, stored_totals}
 use Rattle.book_player.specs.declared.dispatch.Task.{Task}
 use Rattle.book_player.specs.declared.dispatch.Task.TheVariants.{Refused, Opens, Closes, NextDay}
 use Rattle.book_player.specs.declared.dispatch.Task.TheVariants as variant
 use Rattle.book_player.specs.Tasks.{Known, KnownOpens, KnownCloses, KnownHeld}
-use Rattle.book_player.proofs.Closing.{Closing, close_none, close_book}
+use Rattle.book_player.proofs.Closing.{closed}
 use Rattle.book_player.proofs.Marking.{Asked, Marking, dated, mark_asks, mark_book, mark_wrote}
 use Rattle.book_player.proofs.NoneWaiting.{NoneWaits, totals_put_in, totals_taken_out}
-use Rattle.book_player.proofs.Opening.{Opening, open_none, open_book}
+use Rattle.book_player.proofs.Opening.{opened}
 
 -- a well_kept book, and a buffer in which some notices stand and those of any call find room
 pub record Standing (b : Book) (standing : ℕ) (buffer : List ℕ) : Type 0 where
@@ -99,10 +100,10 @@ module _ {b : Book} {standing : ℕ} {buffer : List ℕ} (t : Standing b standin
     known : (k : Task) → task ≡ k → Known bytes b past k
     known k is = subst (Known bytes b past) is told
 
-    pub by_refusal : {calendar : List ℕ} {answer : Answer} → task ≡ Refused answer
-        → Made calendar b bytes standing buffer (record { answer = answer; sent = standing; book = b; buffer = buffer })
-    by_refusal {calendar} {answer} is =
-        made_of _ ((known (Refused answer) is).result calendar) refl refl (writes_none standing buffer)
+    pub by_refusal : {calendar : List ℕ} {why : Refusal} → task ≡ Refused why
+        → Made calendar b bytes standing buffer (record { answer = Err why; sent = standing; book = b; buffer = buffer })
+    by_refusal {calendar} {why} is =
+        made_of _ ((known (Refused why) is).result calendar) refl refl (writes_none standing buffer)
 
     -- ---- a record on the file at a place
     module _ {at : ℕ} {r : Record} (is : task ≡ variant.OnFile at r) where
@@ -112,45 +113,53 @@ module _ {b : Book} {standing : ℕ} {buffer : List ℕ} (t : Standing b standin
       pub held_place : at < most_files
       held_place = omega (arith, found.held.within, well_kept.tidy.few)
 
-      pub held_asks : (calendar : List ℕ) → OnFile calendar b.today (get_or b.files at past) r standing buffer × StaysHeld r
+      pub held_asks : (calendar : List ℕ) → Tidy (get_or b.files at past)
+          × Room standing (given_on calendar b.today (Some (get_or b.files at past)) r).notices buffer × StaysHeld r
       held_asks calendar =
           let f = file_kept_lem at found.held.within in
-          let few = step_few calendar (record { today = b.today; file = some (get_or b.files at past) }) r
+          let few = step_few calendar (record { today = b.today; file = Some (get_or b.files at past) }) r
           (says bytes r found.says).formed (needs_no_mark r found.held.kind.needs) f in
-          (record { tidy = f.tidy; room = omega (arith, few, t.room) }, found.held.kind)
+          (f.tidy, omega (arith, few, t.room), found.held.kind)
 
-      module _ (calendar : List ℕ) (p : PremiseAfter) {after : List ℕ}
-          (gives : Answered (given_on calendar b.today (some (get_or b.files at past)) r) standing p buffer after) where
+      -- a file that is stored there stands there
+      held_stored : (f : File) → get_or (set b.files at f) at past ≡ f
+      held_stored f = get_or-set_same b.files at f past (omega (arith, length_files b well_kept.tidy, held_place))
+
+      -- f is the file that it leaves
+      module _ (calendar : List ℕ) {f : File} (left : Some f ≡ (given_on calendar b.today (Some (get_or b.files at past)) r).state.file) where
         stores : StoresFile calendar b bytes (replicate notice_bytes 0) r at
-            (given_on calendar b.today (some (get_or b.files at past)) r) p.file
-        stores = call_on_held calendar b bytes _ r at past p.file t.kept called_room found.says found.held (sym gives.file)
+            (given_on calendar b.today (Some (get_or b.files at past)) r) f
+        stores = call_on_held calendar b bytes _ r at past f t.kept called_room found.says found.held (sym left)
 
         -- what it asks to move the totals to the file that is left
-        pub held_moves : Tidy (get_or b.files at past) × Tidy p.file × Counts b.waiting (get_or b.files at past)
+        pub held_moves : Tidy (get_or b.files at past) × Tidy (get_or (set b.files at f) at past) × Counts b.waiting (get_or b.files at past)
         held_moves = (
           (file_kept_lem at found.held.within).tidy,
-          stores.file.kept.tidy,
+          subst⁻¹ Tidy (held_stored f) stores.file.kept.tidy,
           place_counted b well_kept at found.held.within,
         )
 
-        pub by_file : {totals : Waiting} → totals ≡ moved b.waiting (get_or b.files at past) p.file
+        pub by_file : {answer : Answer} → answer ≡ (given_on calendar b.today (Some (get_or b.files at past)) r).answer
+            → {sent : ℕ} {after : List ℕ}
+            → Writes standing buffer after sent (given_on calendar b.today (Some (get_or b.files at past)) r).notices
+            → {totals : Waiting} → totals ≡ moved b.waiting (get_or b.files at past) (get_or (set b.files at f) at past)
             → Made calendar b bytes standing buffer
             (record {
-              answer = p.answer;
-              sent = p.sent;
-              book = with_totals b b.count totals (set b.files at p.file);
+              answer = answer;
+              sent = sent;
+              book = with_totals b b.count totals (set b.files at f);
               buffer = after;
             })
-        by_file sum =
-            made_of _ stores.result gives.answer
-            (ap (λ (w : Waiting). with_totals b b.count w (set b.files at p.file))
-            (stored_totals b well_kept at found.held.within p.file sum))
-            gives.wrote
+        by_file answered wrote sum =
+            made_of _ stores.result answered
+            (ap (λ (w : Waiting). with_totals b b.count w (set b.files at f))
+            (stored_totals b well_kept at found.held.within f (sum ∙ ap (moved b.waiting (get_or b.files at past)) (held_stored f))))
+            wrote
 
     -- ---- a mark of the next day
     pub by_marks : {calendar : List ℕ} {day : ℕ} → task ≡ NextDay day → {i sent : ℕ} {c : Book} {after : List ℕ}
         → Marking calendar day (dated day b) standing buffer i sent c after → b.count ≤ i
-        → Made calendar b bytes standing buffer (record { answer = Accepted; sent = sent; book = c; buffer = after })
+        → Made calendar b bytes standing buffer (record { answer = Ok tt; sent = sent; book = c; buffer = after })
     by_marks {calendar} {day} is m end =
         made_of _ ((known (NextDay day) is).result calendar) refl (mark_book m end) (mark_wrote m end)
 
@@ -159,22 +168,20 @@ module _ {b : Book} {standing : ℕ} {buffer : List ℕ} (t : Standing b standin
       opens : KnownOpens bytes b at r
       opens = known (Opens at r) is
 
-      pub opening : (f : File) → Opening b at f b f at
-      opening f = open_none b well_kept.tidy at f opens.within opens.free
-
       -- a new file holds no order
-      pub by_opening : {calendar : List ℕ} {f : File} → f ≡ new_file r → {i : ℕ} {c : Book} {carry : File}
-          → Opening b at f c carry i → b.count < i
+      pub by_opening : {calendar : List ℕ} {f : File} → f ≡ new_file r → {l : List File}
+          → l ≡ paste b.files (at + 1) (drop at b.files) (b.count - at)
           → Made calendar b bytes standing buffer
           (record {
-            answer = Accepted;
+            answer = Ok tt;
             sent = standing;
-            book = with_places c (b.count + 1) c.files;
+            book = with_places b (b.count + 1) (set l at f);
             buffer = buffer;
           })
-      by_opening {calendar} {f} new o end =
+      by_opening {calendar} {f} new {l} moved_up =
           made_of _ (opens.result calendar) refl
-          (open_book o end (totals_put_in b well_kept.tidy at f (subst⁻¹ NoneWaits new refl))
+          (opened b well_kept.tidy at f opens.within opens.free l moved_up
+          (totals_put_in b well_kept.tidy at f (subst⁻¹ NoneWaits new refl))
           ∙ ap (λ (g : File). book_of b.today (inserted at g (files_of b))) new)
           (writes_none standing buffer)
 
@@ -189,31 +196,31 @@ module _ {b : Book} {standing : ℕ} {buffer : List ℕ} (t : Standing b standin
       pub closed_tidy : Tidy (get_or b.files at past)
       closed_tidy = (file_kept_lem at closes.within).tidy
 
-      pub closing : Closing b at b at
-      closing = close_none b well_kept.tidy at closes.within
+      pub close_held : at < b.count
+      close_held = closes.within
 
       -- what comes of it, by whether an order is open
       by_open : {one : Bool} → any_of is_open (held (get_or b.files at past)) ≡ one → (calendar : List ℕ)
-          → called calendar b bytes ≡ cond one (refusal OrderOpen b)
-          (record { answer = Accepted; notices = []; book = book_of b.today (removed at (files_of b)) })
-      by_open e calendar = closes.result calendar ∙ ap (λ (one : Bool). cond one (refusal OrderOpen b)
-          (record { answer = Accepted; notices = []; book = book_of b.today (removed at (files_of b)) })) e
+          → called calendar b bytes ≡ cond one (refusal (Err OrderOpen) b)
+          (record { answer = Ok tt; notices = []; book = book_of b.today (removed at (files_of b)) })
+      by_open e calendar = closes.result calendar ∙ ap (λ (one : Bool). cond one (refusal (Err OrderOpen) b)
+          (record { answer = Ok tt; notices = []; book = book_of b.today (removed at (files_of b)) })) e
 
       pub by_open_order : {calendar : List ℕ} → any_of is_open (held (get_or b.files at past)) ≡ true
           → Made calendar b bytes standing buffer
-          (record { answer = OrderOpen; sent = standing; book = b; buffer = buffer })
+          (record { answer = Err OrderOpen; sent = standing; book = b; buffer = buffer })
       by_open_order {calendar} e = made_of _ (by_open e calendar) refl refl (writes_none standing buffer)
 
       pub by_closing : {calendar : List ℕ} → any_of is_open (held (get_or b.files at past)) ≡ false
-          → {i : ℕ} {c : Book} → Closing b at c i → b.count - 1 ≤ i → {none : File} → none ≡ blank_file
+          → {l : List File} → l ≡ paste b.files at (drop (at + 1) b.files) (b.count - (at + 1)) → {none : File} → none ≡ blank_file
           → Made calendar b bytes standing buffer
           (record {
-            answer = Accepted;
+            answer = Ok tt;
             sent = standing;
-            book = with_places c (b.count - 1) (set c.files (b.count - 1) none);
+            book = with_places b (b.count - 1) (set l (b.count - 1) none);
             buffer = buffer;
           })
-      by_closing {calendar} e o end blank =
+      by_closing {calendar} e {l} moved_down {none} blank =
           made_of _ (by_open e calendar) refl
-          (close_book o end blank (totals_taken_out b well_kept.tidy at closes.within e))
+          (closed b well_kept.tidy at closes.within l moved_down none blank (totals_taken_out b well_kept.tidy at closes.within e))
           (writes_none standing buffer)

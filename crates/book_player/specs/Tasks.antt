@@ -4,13 +4,12 @@ use Rattle.std.specs.Prelude.{ℕ, ◌+◌, ◌≤◌, ◌<◌, ◌≡◌, List,
 use Rattle.lists.specs.Search.{any_of}
 use Rattle.lists.specs.Shift.{inserted, removed}
 use Rattle.records.specs.declared.Record.{Record}
-use Rattle.records.specs.declared.Reading.{Reading}
-use Rattle.records.specs.declared.Reading.TheVariants.{Malformed, Says}
+use Rattle.std.specs.Prelude.{Option, Some, None}
 use Rattle.records.specs.Records.{reading, kind_create, kind_retire}
 use Rattle.premise.specs.declared.File.{File}
-use Rattle.premise.specs.declared.Answer.{Answer}
-use Rattle.premise.specs.declared.Answer.TheVariants.{Accepted, MalformedRecord, NoSuchPremise, PremiseHeld, BookFull, OrderOpen}
-use Rattle.premise.specs.declared.Answer.TheVariants.{NotNextDay}
+use Rattle.std.specs.Prelude.{Ok, Err}
+use Rattle.premise.specs.declared.Refusal.{Refusal}
+use Rattle.premise.specs.declared.Refusal.TheVariants.{MalformedRecord, NoSuchPremise, PremiseHeld, BookFull, OrderOpen, NotNextDay}
 use Rattle.premise.specs.Orders.{is_open, held}
 use Rattle.premise.specs.Steps.{is, new_file}
 use Rattle.premise.specs.Refusals.{needs_premise}
@@ -24,9 +23,9 @@ use Rattle.book_player.specs.declared.dispatch.Task.TheVariants.{Refused, Opens,
 
 -- ---- what is to be done
 -- the premise that a record names; 0, which is no premise's number, where it names none
-abbrev pub premise_in : Reading → ℕ
-premise_in Malformed = 0
-premise_in (Says r) = r.premise
+abbrev pub premise_in : Option Record → ℕ
+premise_in None = 0
+premise_in (Some r) = r.premise
 
 -- a create: rows 5 and 6; the premise is held exactly if the number at its place is its own
 abbrev pub on_new : Record → ℕ → ℕ → ℕ → Task
@@ -47,24 +46,24 @@ task_for today count at there r =
     cond (is kind_create r) (on_new r count at there) (cond (needs_premise r) (on_held r at there) (on_mark today r.day))
 
 -- row 3
-abbrev pub task_of : ℕ → ℕ → ℕ → ℕ → Reading → Task
-task_of today count at there Malformed = Refused MalformedRecord
-task_of today count at there (Says r) = task_for today count at there r
+abbrev pub task_of : ℕ → ℕ → ℕ → ℕ → Option Record → Task
+task_of today count at there None = Refused MalformedRecord
+task_of today count at there (Some r) = task_for today count at there r
 
 -- ---- what is known then of a record on a book
 -- a create: a new file stands at the place
 abbrev pub opening : Book → ℕ → Record → Result
-opening b at r = record { answer = Accepted; notices = []; book = book_of b.today (inserted at (new_file r) (files_of b)) }
+opening b at r = record { answer = Ok tt; notices = []; book = book_of b.today (inserted at (new_file r) (files_of b)) }
 
 -- a retire of the file that stands at a place: row 7, then it leaves
 abbrev pub closing : Book → ℕ → File → Result
 closing b at f =
-    cond (any_of is_open (held f)) (refusal OrderOpen b)
-    (record { answer = Accepted; notices = []; book = book_of b.today (removed at (files_of b)) })
+    cond (any_of is_open (held f)) (refusal (Err OrderOpen) b)
+    (record { answer = Ok tt; notices = []; book = book_of b.today (removed at (files_of b)) })
 
 -- it is refused
-pub record KnownRefused (bytes : List ℕ) (b : Book) (answer : Answer) : Type 0 where
-  pub result : (calendar : List ℕ) → called calendar b bytes ≡ refusal answer b
+pub record KnownRefused (bytes : List ℕ) (b : Book) (why : Refusal) : Type 0 where
+  pub result : (calendar : List ℕ) → called calendar b bytes ≡ refusal (Err why) b
 
 -- it opens a place, and one is free
 pub record KnownOpens (bytes : List ℕ) (b : Book) (at : ℕ) (r : Record) : Type 0 where
@@ -79,7 +78,7 @@ pub record KnownCloses (bytes : List ℕ) (b : Book) (past : File) (at : ℕ) : 
 
 -- its premise is held at a place
 pub record KnownHeld (bytes : List ℕ) (b : Book) (past : File) (at : ℕ) (r : Record) : Type 0 where
-  pub says : reading bytes ≡ Says r
+  pub says : reading bytes ≡ Some r
   pub held : OnHeld b at past r
 
 -- it marks the next day: every file of the book is marked
@@ -88,7 +87,7 @@ pub record KnownMark (bytes : List ℕ) (b : Book) (day : ℕ) : Type 0 where
 
 -- `past` is what a read past the last place would give, of which none comes
 abbrev pub Known : List ℕ → Book → File → Task → Type 0
-Known bytes b past (Refused answer) = KnownRefused bytes b answer
+Known bytes b past (Refused why) = KnownRefused bytes b why
 Known bytes b past (Opens at r) = KnownOpens bytes b at r
 Known bytes b past (Closes at) = KnownCloses bytes b past at
 Known bytes b past (OnFile at r) = KnownHeld bytes b past at r

@@ -4,14 +4,14 @@ ghost use Rattle.std.specs.Prelude.{◌≡◌, ◌≤◌};
 ghost use Rattle.days.specs.Days.{last_day};
 ghost use Rattle.book_player.specs.Tasks.{premise_in, on_new, on_held, on_mark, task_of};
 
-use premise::Answer;
-use records::{Reading, Record, record_kind};
+use premise::Refusal;
+use records::{Record, record_kind};
 
 // What is to be done with a record.
 #[derive(Clone, Copy)]
 pub enum Task {
     // It is refused, whatever the files hold.
-    Refused(Answer),
+    Refused(Refusal),
     // It creates a premise, whose file is to stand at the place.
     Opens(usize, Record),
     // It retires the premise whose file stands at the place.
@@ -23,13 +23,10 @@ pub enum Task {
 }
 
 // The premise that a record names; 0, which is no premise's number, where it names none.
-pub fn premise_in(reading: Reading) -> u64
+pub fn premise_in(reading: Option<Record>) -> u64
     ensures { result ≡ premise_in reading }
 {
-    match reading {
-        Reading::Malformed => 0,
-        Reading::Says(r) => r.premise,
-    }
+    reading.map_or(0, |r| r.premise)
 }
 
 // A create: rows 5 and 6.
@@ -37,10 +34,10 @@ fn on_new(r: Record, count: usize, at: usize, there: u64) -> Task
     ensures { result ≡ on_new r count at there }
 {
     if there == r.premise {
-        return Task::Refused(Answer::PremiseHeld);
+        return Task::Refused(Refusal::PremiseHeld);
     }
     if count == book::MOST_FILES {
-        return Task::Refused(Answer::BookFull);
+        return Task::Refused(Refusal::BookFull);
     }
     Task::Opens(at, r)
 }
@@ -50,7 +47,7 @@ fn on_held(r: Record, at: usize, there: u64) -> Task
     ensures { result ≡ on_held r at there }
 {
     if there != r.premise {
-        return Task::Refused(Answer::NoSuchPremise);
+        return Task::Refused(Refusal::NoSuchPremise);
     }
     if r.kind == record_kind::RETIRE {
         return Task::Closes(at);
@@ -66,24 +63,22 @@ fn on_mark(day: u16, today: u16) -> Task
     if day == today + 1 {
         return Task::NextDay(day);
     }
-    Task::Refused(Answer::NotNextDay)
+    Task::Refused(Refusal::NotNextDay)
 }
 
 // What is to be done with a record whose premise stands at a place or would stand there: it is held exactly if the number there is its own.
-pub fn task_of(reading: Reading, today: u16, count: usize, at: usize, there: u64) -> Task
+pub fn task_of(reading: Option<Record>, today: u16, count: usize, at: usize, there: u64) -> Task
     requires { today ≤ last_day }
     ensures { result ≡ task_of today count at there reading }
 {
-    match reading {
-        Reading::Malformed => Task::Refused(Answer::MalformedRecord),
-        Reading::Says(r) => {
-            let kind = r.kind;
-            match kind {
-                record_kind::CREATE => on_new(r, count, at, there),
-                record_kind::RETIRE..=record_kind::REPLY
-                | record_kind::DATE_CHANGE..=record_kind::AGREEMENT => on_held(r, at, there),
-                _ => on_mark(r.day, today),
-            }
-        }
+    let Some(r) = reading else {
+        return Task::Refused(Refusal::MalformedRecord);
+    };
+    // Document 01 names this form: one `match` over the kind, with ranges.
+    match r.kind {
+        record_kind::CREATE => on_new(r, count, at, there),
+        record_kind::RETIRE..=record_kind::REPLY
+        | record_kind::DATE_CHANGE..=record_kind::AGREEMENT => on_held(r, at, there),
+        _ => on_mark(r.day, today),
     }
 }

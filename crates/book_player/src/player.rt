@@ -6,24 +6,21 @@ ghost use Rattle.book.specs.CallsInRow.{records_of, calls_in_row, Plays};
 
 use crate::dispatch::Task;
 use book::{Book, Playback};
-use premise::Answer;
+use premise::{Answer, Refusal};
+use premise_notices::Outbox;
 
 // Where a record ends that starts before a tape's end: the last may be short.
 pub fn record_end(from: usize, length: usize) -> usize
     requires { from < length }
     ensures { result ≡ min (from + record_length) length }
 {
-    if length - from < records::RECORD_LENGTH {
-        return length;
-    }
-    from + records::RECORD_LENGTH
+    from + (length - from).min(records::RECORD_LENGTH)
 }
 
 // Plays the records of a stretch of tape, one call each: as many as there are answers to note, and as long as any record's notices surely
 // find room. A refusal leaves the book; a record on a premise that is held stores one file, a mark the files that it changes, and the
 // totals of waiting orders move with each of these and for no other; only a create and a retire, which are rare, move files. They move no
-// total: a new file holds no order, and one that is taken out has none open. (Premises are looked for and files moved in this function: a
-// call would hand the book over.)
+// total: a new file holds no order, and one that is taken out has none open.
 pub fn play(
     calendar: &[u8],
     b: Book,
@@ -42,7 +39,7 @@ pub fn play(
     let mut played: usize = 0;
     let mut sent: usize = 0;
     let mut from: usize = 0;
-    let mut last = Answer::Accepted;
+    let mut last: Answer = Ok(());
     while played < answers.len() {
         if tape.len() <= from {
             break;
@@ -56,77 +53,58 @@ pub fn play(
         let wanted = crate::dispatch::premise_in(reading);
         let count = c.count;
         let standing = sent;
-        // where the premise stands or would stand, and the number that was read last
-        let mut at: usize = 0;
-        let mut there: u64 = 0;
-        while at < count {
-            there = c.files[at].premise;
-            if wanted <= there {
-                break;
-            }
-            at += 1;
-        }
+        // where the premise stands or would stand, and the number that stands there
+        let held = &c.files[..count];
+        let at = held.partition_point(|f| f.premise < wanted);
+        let there = held.get(at).map_or(0, |f| f.premise);
         let task = crate::dispatch::task_of(reading, c.today, count, at, there);
-        last = Answer::Accepted;
+        last = Ok(());
         match task {
-            Task::Refused(row) => {
-                last = row;
+            Task::Refused(refusal) => {
+                last = Err(refusal);
             }
             Task::OnFile(at, r) => {
-                let f = c.files[at];
-                let p = premise_steps::on_file(calendar, c.today, f, r, standing, notices);
-                let g = p.file;
-                c.waiting = book_files::moved(c.waiting, f, g);
-                c.files[at] = g;
-                last = p.answer;
-                sent = p.sent;
+                let old = c.files[at];
+                let mut out = Outbox {
+                    buffer: notices,
+                    sent,
+                };
+                last = premise_steps::on_file(calendar, c.today, &mut c.files[at], r, &mut out);
+                sent = out.sent;
+                c.waiting = book_files::moved(c.waiting, &old, &c.files[at]);
             }
             Task::NextDay(day) => {
                 let business = days::is_business_day(calendar, day);
                 let ends = days::last_days(calendar, day);
                 c.today = day;
-                let mut place: usize = 0;
-                while place < count {
-                    let f = c.files[place];
-                    let at = place;
-                    place += 1;
-                    let end = ends[f.window as usize - 1];
-                    if premise_steps::mark_changes_file(business, day, end, f) {
-                        // read again: from one variable, into which the clock stores, every file that is asked would be copied
-                        let before = c.files[at];
-                        let m = premise_steps::mark(calendar, day, end, before, sent, notices);
-                        let g = m.file;
-                        c.waiting = book_files::moved(c.waiting, before, g);
-                        c.files[at] = g;
-                        sent = m.sent;
+                // by place: a turn stores to the file that it has read
+                for place in 0..count {
+                    let file = &c.files[place];
+                    let end = ends[file.window as usize - 1];
+                    if premise_steps::mark_changes_file(business, day, end, file) {
+                        let before = *file;
+                        let mut out = Outbox {
+                            buffer: notices,
+                            sent,
+                        };
+                        premise_steps::mark(calendar, day, end, &mut c.files[place], &mut out);
+                        sent = out.sent;
+                        c.waiting = book_files::moved(c.waiting, &before, &c.files[place]);
                     }
                 }
             }
             Task::Opens(at, r) => {
-                let mut carry = premise_file::new_file(r);
-                let mut place = at;
-                while place <= count {
-                    let g = c.files[place];
-                    c.files[place] = carry;
-                    carry = g;
-                    place += 1;
-                }
+                c.files.copy_within(at..count, at + 1);
+                c.files[at] = premise_file::new_file(r);
                 c.count = count + 1;
             }
             Task::Closes(at) => {
-                let f = c.files[at];
-                if premise_file::any_open(f) {
-                    last = Answer::OrderOpen;
+                if premise_file::any_open(c.files[at].held()) {
+                    last = Err(Refusal::OrderOpen);
                 } else {
                     let left = count - 1;
-                    let mut freed = at;
-                    while freed < left {
-                        let g = c.files[freed + 1];
-                        c.files[freed] = g;
-                        freed += 1;
-                    }
-                    let none = premise_file::blank_file();
-                    c.files[left] = none;
+                    c.files.copy_within(at + 1..count, at);
+                    c.files[left] = premise_file::blank_file();
                     c.count = left;
                 }
             }
@@ -137,9 +115,9 @@ pub fn play(
         from = to;
     }
     Playback {
-        played: played,
-        sent: sent,
-        last: last,
+        played,
+        sent,
+        last,
         book: c,
     }
 }

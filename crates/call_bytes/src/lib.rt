@@ -4,11 +4,15 @@
 #![tactic(auto)]
 
 mod book_bytes;
+mod fault;
 mod input;
 mod lines;
-mod pattern;
+mod playing;
 
-pub use book_bytes::BOOK_BYTES;
-pub use input::{BookTaken, take_book, take_part, take_room};
-pub use lines::{TEXT_BYTES, say, say_answers, say_book, say_changed, say_notices, write_out};
-pub use pattern::{PATTERN, fill};
+pub use fault::Fault;
+pub use input::{take_book, take_part, take_room};
+pub use lines::Lines;
+pub use playing::play_all;
+
+// What lent buffers are filled with, so that a byte that was written shows.
+pub const PATTERN: u8 = 165;

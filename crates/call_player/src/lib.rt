@@ -1,6 +1,21 @@
-// A tape played by record calls: a stretch of it, as `tape_player` plays one by a loop of its own.
+// A tape played by record calls: who plays the records of a stretch so. `tape_player::play_on` plays by him as by its own loop.
 #![tactic(auto)]
 
-mod stretch;
+use book::{Book, Playback};
+use tape_player::Player;
 
-pub use stretch::play_on;
+// A record call for each record, and nothing else.
+pub struct Calls;
+
+impl Player for Calls {
+    fn play(
+        calendar: &[u8],
+        b: Book,
+        tape: &[u8],
+        answers: &mut [u8],
+        counts: &mut [u16],
+        notices: &mut [u8],
+    ) -> Playback {
+        call_row::calls_in_row(calendar, b, tape, answers, counts, notices)
+    }
+}

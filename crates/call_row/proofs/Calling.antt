@@ -8,8 +8,8 @@ use lib.ListN.{length, take, drop, set, length-append, length-map, length-take, 
 use lib.Seq.{take_all, take_at, drop_at, drop-drop}
 use Rattle.records.specs.Layout.{record_length}
 use Rattle.records.proofs.Emits.{emits_rest, emits_length}
-use Rattle.premise.specs.declared.Answer.{Answer}
-use Rattle.premise.specs.declared.Answer.TheVariants.{Accepted}
+use Rattle.std.specs.Prelude.{Ok}
+use Rattle.premise.specs.Refusals.{Answer}
 use Rattle.premise.specs.Refusals.{number}
 use Rattle.book.specs.declared.Book.{Book}
 use Rattle.book.specs.declared.Reply.{Reply}
@@ -66,7 +66,7 @@ pub record Calling (calendar tape : List ℕ) (b : Book) (answers₀ counts₀ n
   pub count : played ≡ length made
   pub total : sent ≡ sent_by made
   pub long : length (bytes_sent made) ≡ record_length * sent
-  pub ended : last ≡ last_given Accepted made
+  pub ended : last ≡ last_given (Ok tt) made
   pub answered : Noted (numbers_given made) answers₀ answers
   pub counted : Noted (counts_given made) counts₀ counts
   pub wrote : Noted (bytes_sent made) notices₀ notices
@@ -74,7 +74,7 @@ pub record Calling (calendar tape : List ℕ) (b : Book) (answers₀ counts₀ n
   pub rest : records_of (places answers₀ counts₀) tape ≡ tape_of made ++ records_of (places answers₀ counts₀ - played) (drop from tape)
 
 pub calling_none : (calendar tape : List ℕ) (b : Book) (answers counts notices : List ℕ)
-    → Calling calendar tape b answers counts notices answers counts notices b 0 0 0 Accepted
+    → Calling calendar tape b answers counts notices answers counts notices b 0 0 0 (Ok tt)
 calling_none calendar tape b answers counts notices =
     let all : places answers counts - 0 ≡ places answers counts = omega arith in
     record {
@@ -246,7 +246,7 @@ module _ {calendar tape : List ℕ} {b : Book} {answers₀ counts₀ notices₀ 
           total = ap (λ (k : ℕ). k + reply.sent) p.total ∙ sym (sent_more made ms);
           long = ap length (bytes_more made ms) ∙ length-append (bytes_sent ms) (take n part)
               ∙ omega (arith, p.long, length-take n part, part_long);
-          ended = sym (last_more made Accepted ms);
+          ended = sym (last_more made (Ok tt) ms);
           answered = subst⁻¹ (λ (l : List ℕ). Noted l answers₀ (set answers played answer))
               (numbers_more made ms ∙ ap (λ (k : ℕ). numbers_given ms ++ (k ∷ [])) (sym is))
               (noted_more (numbers_given ms) answers₀ answers played answer p.answered noted_numbers (omega (arith, more)));

@@ -5,7 +5,6 @@ ghost use Rattle.demands.specs.Demand3.{Made};
 ghost use Rattle.call_row_rules.specs.CallsMade.{CallsMade};
 
 use book::{Book, Playback, Reply};
-use premise::Answer;
 
 // Makes a record call for each record of a stretch, on the book that the one before returned and into the notice bytes still free: as many
 // as there are answers and counts to note, and as long as a call is sure of its 24,576 bytes.
@@ -24,7 +23,7 @@ pub fn calls_in_row(
 {
     // What the last call returned is the variable of the loop: a book of its own would be filled by one copy more a call.
     let mut reply = Reply {
-        answer: Answer::Accepted,
+        answer: Ok(()),
         sent: 0,
         book: b,
     };
@@ -52,12 +51,10 @@ pub fn calls_in_row(
         played += 1;
         from = to;
     }
-    let last = reply.answer;
-    let after = reply.book;
     Playback {
-        played: played,
-        sent: sent,
-        last: last,
-        book: after,
+        played,
+        sent,
+        last: reply.answer,
+        book: reply.book,
     }
 }

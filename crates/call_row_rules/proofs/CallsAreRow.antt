@@ -10,8 +10,8 @@ use Rattle.records.specs.Layout.{record_length}
 use Rattle.records.specs.Notices.{encode_all, Emits}
 use Rattle.records.proofs.Emits.{emits_as}
 use Rattle.records.proofs.Notices.{length-encode_all, encode_all-append}
-use Rattle.premise.specs.declared.Answer.{Answer}
-use Rattle.premise.specs.declared.Answer.TheVariants.{Accepted}
+use Rattle.std.specs.Prelude.{Ok}
+use Rattle.premise.specs.Refusals.{Answer}
 use Rattle.premise.specs.Refusals.{number}
 use Rattle.book.specs.declared.Book.{Book}
 use Rattle.book.specs.Calls.{notice_bytes, Result, call}
@@ -136,7 +136,7 @@ calls_are_row calendar b records r answers₀ answers₁ counts₀ counts₁ not
     record {
       book = p.book ∙ sym s.book;
       played = p.played ∙ sym s.count;
-      last = p.last ∙ sym (s.last Accepted);
+      last = p.last ∙ sym (s.last (Ok tt));
       answers = subst⁻¹ (λ (l : List ℕ). Noted l answers₀ answers₁) s.answers p.answers;
       counts = subst⁻¹ (λ (l : List ℕ). Noted l counts₀ counts₁) s.counts p.counts;
       notices = record {

@@ -6,7 +6,7 @@ use native.Mathlib.Omega.{arith}
 use lib.ListN.{length, take, drop}
 use lib.Seq.{drop-drop}
 use Rattle.records.specs.Layout.{record_length}
-use Rattle.premise.specs.declared.Answer.{Answer}
+use Rattle.premise.specs.Refusals.{Answer}
 use Rattle.premise.specs.Refusals.{number}
 use Rattle.book.specs.declared.Book.{Book}
 use Rattle.book.specs.Calls.{notice_bytes}

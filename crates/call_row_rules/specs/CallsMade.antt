@@ -2,8 +2,8 @@
 -- next, so that demand 3 speaks of them.
 use Rattle.std.specs.Prelude.{ℕ, ◌+◌, ◌*◌, ◌-◌, ◌≤◌, ◌<◌, ◌≡◌, ◌⊎◌, List, [], ◌∷◌, ◌++◌, map, length, take, drop}
 use Rattle.records.specs.Layout.{record_length}
-use Rattle.premise.specs.declared.Answer.{Answer}
-use Rattle.premise.specs.declared.Answer.TheVariants.{Accepted}
+use Rattle.std.specs.Prelude.{Ok}
+use Rattle.premise.specs.Refusals.{Answer}
 use Rattle.premise.specs.Refusals.{number}
 use Rattle.book.specs.declared.Book.{Book}
 use Rattle.book.specs.declared.Playback.{Playback}
@@ -55,5 +55,5 @@ pub record CallsMade (calendar : List ℕ) (b : Book) (records : List (List ℕ)
   pub counts : Noted (counts_given made) counts₀ counts₁
   pub sent : r.sent ≡ sent_by made
   pub notices : Noted (bytes_sent made) notices₀ notices₁
-  pub last : r.last ≡ last_given Accepted made
+  pub last : r.last ≡ last_given (Ok tt) made
   pub book : r.book ≡ last_book b made

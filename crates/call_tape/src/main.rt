@@ -3,5 +3,5 @@
 #![tactic(auto)]
 
 fn main(rt: HostRuntime) {
-    tape_io::run(&rt, true);
+    tape_io::run::<tape_io::Calls>(&rt);
 }

@@ -8,14 +8,13 @@
 // about its beginning would say nothing of the tape. What is wrong, and what to do, goes to standard error.
 #![tactic(auto)]
 
-ghost use Rattle.std.specs.Prelude.{◌≡◌, ◌++◌, ◌+◌, ◌≤◌, length, drop};
+ghost use Rattle.std.specs.Prelude.{◌≡◌, ◌++◌, ◌+◌, ◌≤◌, length, drop, IfOk, IfSome};
 ghost use Rattle.compare_tapes.specs.Sizes.{room_for_tape};
 
 use std::fs::File;
 use std::io;
-use std::io::ErrorKind;
 use tape_agreement_rules::Agreement;
-use tape_io::Got;
+use tape_io::Cut;
 
 // The longest tape that is taken: 43,690 records.
 const TAPE_BYTES: usize = 1_048_560;
@@ -23,10 +22,22 @@ const TAPE_BYTES: usize = 1_048_560;
 // The room for tapes as the tape program plays them. Most are no longer, and are spared the time that a room for the longest takes.
 const SHORT_ROOM: usize = 65_536;
 
-// The words behind the program's name.
-const OURS: usize = 1;
+// Whose tape is meant, by the place of the word that names it.
+#[derive(Debug, Clone, Copy, PartialEq, Eq)]
+enum Side {
+    Ours = 1,
+    Theirs = 2,
+}
 
-const THEIRS: usize = 2;
+impl Side {
+    // How a message about its tape begins.
+    fn said(self) -> &'static [u8] {
+        match self {
+            Side::Ours => b"compare_tapes: our tape",
+            Side::Theirs => b"compare_tapes: their tape",
+        }
+    }
+}
 
 // A buffer for the longest tape and one byte more, which shows that a tape is too long. It says its length alone, so that no proof counts
 // its zeros off.
@@ -37,12 +48,8 @@ fn room_for_tape() -> [u8; TAPE_BYTES + 1]
 }
 
 // Says that a tape can't be read, and why.
-fn complain(rt: &HostRuntime, argument: usize, error: io::Error) {
-    if argument == OURS {
-        tape_io::fail(rt, b"compare_tapes: our tape", error);
-    } else {
-        tape_io::fail(rt, b"compare_tapes: their tape", error);
-    }
+fn complain(rt: &HostRuntime, side: Side, error: io::Error) {
+    tape_io::fail(rt, side.said(), error);
     tape_io::say(
         rt,
         b"compare_tapes: nothing was compared; give two tapes that can be read, as in: compare_tapes OURS THEIRS\n",
@@ -50,12 +57,8 @@ fn complain(rt: &HostRuntime, argument: usize, error: io::Error) {
 }
 
 // Says that a tape is too long.
-fn complain_of_length(rt: &HostRuntime, argument: usize) {
-    if argument == OURS {
-        tape_io::say(rt, b"compare_tapes: our tape");
-    } else {
-        tape_io::say(rt, b"compare_tapes: their tape");
-    }
+fn complain_of_length(rt: &HostRuntime, side: Side) {
+    tape_io::say(rt, side.said());
     tape_io::say(
         rt,
         b" has more than the 1048560 bytes that are taken; nothing was compared; give tapes of at most 43690 records\n",
@@ -63,18 +66,18 @@ fn complain_of_length(rt: &HostRuntime, argument: usize) {
 }
 
 // The tape of a name, opened.
-fn open_named(rt: &HostRuntime, argument: usize) -> io::Result<File> {
+fn open_named(rt: &HostRuntime, side: Side) -> io::Result<File> {
     let mut path = [0u8; tape_io::WORD_BYTES];
-    let n = tape_io::file_name(rt, argument, &mut path)?;
-    tape_io::open(rt, &path[0..n])
+    let n = tape_io::file_name(rt, side as usize, &mut path)?;
+    tape_io::open(rt, &path[..n])
 }
 
-// Opens the tape that an argument names; where that fails, it is said.
-fn open_tape(rt: &HostRuntime, argument: usize) -> Option<File> {
-    match open_named(rt, argument) {
+// Opens the tape of a side; where that fails, it is said.
+fn open_tape(rt: &HostRuntime, side: Side) -> Option<File> {
+    match open_named(rt, side) {
         Ok(tape) => Some(tape),
         Err(error) => {
-            complain(rt, argument, error);
+            complain(rt, side, error);
             None
         }
     }
@@ -89,40 +92,39 @@ fn put_front(bytes: &[u8], buffer: &mut [u8])
 }
 
 // Reads on behind the bytes that stand at the front of a buffer; how many stand there then.
-fn read_behind(tape: &mut File, done: usize, buffer: &mut [u8]) -> Got
+fn read_behind(tape: &mut File, done: usize, buffer: &mut [u8]) -> Result<usize, Cut>
     requires { done ≤ length buffer.old }
-    ensures { result.count ≤ length buffer.new }
+    ensures { IfOk result (λ n. n ≤ length buffer.new) }
 {
     let rest = &mut buffer[done..];
-    let got = tape_io::read_up_to(tape, rest);
-    Got {
-        count: done + got.count,
-        failed: got.failed,
-    }
+    let more = tape_io::fill(tape, rest)?;
+    Ok(done + more)
 }
 
-// The whole of a tape whose first bytes were read, in a room for the longest; what is wrong with it is said.
+// The whole of a tape whose first bytes were read, in a room for the longest: how long it is, or nothing where it is said what is wrong with
+// it.
 fn read_whole(
     rt: &HostRuntime,
-    argument: usize,
+    side: Side,
     tape: &mut File,
     first: &[u8],
     room: &mut [u8],
-) -> Got
+) -> Option<usize>
     requires { length first.now ≤ length room.old }
-    ensures { result.count ≤ length room.new }
+    ensures { IfSome result (λ n. n ≤ length room.new) }
 {
     put_front(first, room);
-    let got = read_behind(tape, first.len(), room);
-    if let Some(error) = got.failed {
-        complain(rt, argument, error);
-        return got;
+    match read_behind(tape, first.len(), room) {
+        Ok(n) if n <= TAPE_BYTES => Some(n),
+        Ok(_) => {
+            complain_of_length(rt, side);
+            None
+        }
+        Err(cut) => {
+            complain(rt, side, cut.error);
+            None
+        }
     }
-    if TAPE_BYTES < got.count {
-        complain_of_length(rt, argument);
-        return tape_io::failed_with(io::Error::from(ErrorKind::FileTooLarge));
-    }
-    got
 }
 
 // Prints the answer's line.
@@ -145,11 +147,22 @@ fn answer(rt: &HostRuntime, ours: &[u8], theirs: &[u8]) {
     }
 }
 
-// Compares tapes of which one at least did not end in a short room: each is read whole in a room of its own, ours and then, with ours at
-// hand, theirs. Calling itself, it stays a function of its own, and its rooms take no time where they are not needed.
+// Reads their tape whole in a room of its own, and compares. Not put into its caller, whose room then takes no time where it is not needed.
+#[inline(never)]
+fn compare_with(rt: &HostRuntime, ours: &[u8], their_tape: &mut File, theirs: &[u8])
+    requires { length theirs.now ≤ room_for_tape }
+{
+    let mut room = room_for_tape();
+    if let Some(n) = read_whole(rt, Side::Theirs, their_tape, theirs, &mut room) {
+        answer(rt, ours, &room[..n]);
+    }
+}
+
+// Compares tapes of which one at least did not end in a short room: ours is read whole in a room of its own, and then theirs. Not put into
+// its caller either.
+#[inline(never)]
 fn compare_long(
     rt: &HostRuntime,
-    next: usize,
     our_tape: &mut File,
     ours: &[u8],
     their_tape: &mut File,
@@ -158,48 +171,43 @@ fn compare_long(
     requires { (length ours.now ≤ room_for_tape) × (length theirs.now ≤ room_for_tape) }
 {
     let mut room = room_for_tape();
-    if next == OURS {
-        let got = read_whole(rt, OURS, our_tape, ours, &mut room);
-        if got.failed.is_some() {
-            return;
+    if let Some(n) = read_whole(rt, Side::Ours, our_tape, ours, &mut room) {
+        compare_with(rt, &room[..n], their_tape, theirs);
+    }
+}
+
+// The first bytes of a tape: how many came, or nothing where it is said that it can't be read.
+fn read_short(rt: &HostRuntime, side: Side, tape: &mut File, room: &mut [u8]) -> Option<usize>
+    ensures { IfSome result (λ n. n ≤ length room.new) }
+{
+    match tape_io::fill(tape, room) {
+        Ok(n) => Some(n),
+        Err(cut) => {
+            complain(rt, side, cut.error);
+            None
         }
-        let m = got.count;
-        compare_long(rt, THEIRS, our_tape, &room[0..m], their_tape, theirs);
-        return;
     }
-    let got = read_whole(rt, THEIRS, their_tape, theirs, &mut room);
-    if got.failed.is_some() {
-        return;
-    }
-    let n = got.count;
-    answer(rt, ours, &room[0..n]);
 }
 
 // The same by way of a short room, as far as both tapes end in it.
 fn compare_open(rt: &HostRuntime, our_tape: &mut File, their_tape: &mut File) {
     let mut ours = [0u8; SHORT_ROOM];
-    let got = tape_io::read_up_to(our_tape, &mut ours);
-    if let Some(error) = got.failed {
-        complain(rt, OURS, error);
+    let Some(m) = read_short(rt, Side::Ours, our_tape, &mut ours) else {
         return;
-    }
-    let m = got.count;
+    };
     if m == SHORT_ROOM {
-        compare_long(rt, OURS, our_tape, &ours[0..m], their_tape, b"");
+        compare_long(rt, our_tape, &ours[..m], their_tape, b"");
         return;
     }
     let mut theirs = [0u8; SHORT_ROOM];
-    let other = tape_io::read_up_to(their_tape, &mut theirs);
-    if let Some(error) = other.failed {
-        complain(rt, THEIRS, error);
+    let Some(n) = read_short(rt, Side::Theirs, their_tape, &mut theirs) else {
         return;
-    }
-    let n = other.count;
+    };
     if n == SHORT_ROOM {
-        compare_long(rt, OURS, our_tape, &ours[0..m], their_tape, &theirs[0..n]);
+        compare_long(rt, our_tape, &ours[..m], their_tape, &theirs[..n]);
         return;
     }
-    answer(rt, &ours[0..m], &theirs[0..n]);
+    answer(rt, &ours[..m], &theirs[..n]);
 }
 
 fn main(rt: HostRuntime) {
@@ -210,10 +218,10 @@ fn main(rt: HostRuntime) {
         );
         return;
     }
-    let Some(mut ours) = open_tape(&rt, OURS) else {
+    let Some(mut ours) = open_tape(&rt, Side::Ours) else {
         return;
     };
-    let Some(mut theirs) = open_tape(&rt, THEIRS) else {
+    let Some(mut theirs) = open_tape(&rt, Side::Theirs) else {
         return;
     };
     compare_open(&rt, &mut ours, &mut theirs);

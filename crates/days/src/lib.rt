@@ -11,7 +11,8 @@ pub use searches::{last_days, last_in_window, switch_date};
 // The last day that there is.
 pub const LAST_DAY: u16 = 4095;
 
-// "No day": what stands for a scheduled day or a switch date that is missing.
+// "No day": what stands for a scheduled day or a switch date that is missing. It is no Option: an order's field and a notice's day hold
+// this very number, and so does the definition no_day.
 pub const NO_DAY: u16 = 4096;
 
 // Two business days: the width of the window.

@@ -6,7 +6,8 @@ ghost use Rattle.days.specs.Window.{LastInWindow, LastDays};
 use crate::kinds::{is_business_day, kind_of_day};
 use crate::{LAST_DAY, MOST_WIDTH, NO_DAY};
 
-// The first available switch date from today on, or NO_DAY. The search stops at the date and yields it.
+// The first available switch date from today on, or NO_DAY. The search stops at the date and yields it: a loop that breaks with the date,
+// as document 01 names it, and no `for`.
 pub fn switch_date(calendar: &[u8], today: u16) -> u16
     ensures { result ≡ switch_date calendar.now today }
 {
@@ -27,15 +28,13 @@ pub fn last_in_window(calendar: &[u8], width: u8, today: u16) -> u16
     ensures { LastInWindow calendar.now width today result }
 {
     let mut allowed = width;
-    let mut day = today;
-    while day < LAST_DAY {
+    for day in today..LAST_DAY {
         if is_business_day(calendar, day) {
             if allowed == 0 {
                 return day;
             }
             allowed -= 1;
         }
-        day += 1;
     }
     LAST_DAY
 }

@@ -3,7 +3,7 @@ use Prim.Native.Nat.{ℕ, suc, ◌+◌, ◌≤◌, min}
 use mathlib.Core.Path.{◌≡◌, refl, ap, ap₂, sym, ◌∙◌}
 use mathlib.Core.Logic.{◌↔◌}
 use mathlib.Core.List.{List, [], ◌∷◌, map}
-use mathlib.Core.Option.{Option, none, some}
+use Rattle.std.specs.Prelude.{Option, Some, None}
 use mathlib.Core.Bool.{Bool, true, false, cond, not, ◌&&◌, ◌||◌, and-false, false≢true}
 use native.Mathlib.Omega.{arith}
 use lib.Dec.{ltb}
@@ -13,8 +13,6 @@ use Rattle.lists.specs.Search.{Each, any_of}
 use Rattle.lists.proofs.TestLaws.{or_left, or_right}
 use Rattle.days.specs.Days.{last_day}
 use Rattle.records.specs.declared.Record.{Record}
-use Rattle.records.specs.declared.Reading.{Reading}
-use Rattle.records.specs.declared.Reading.TheVariants.{Malformed, Says}
 use Rattle.records.specs.Layout.{Bytes}
 use Rattle.records.specs.Records.{reading, kind_create, kind_day_mark}
 use Rattle.records.proofs.Emits.{emits_rest, emits_length}
@@ -93,21 +91,21 @@ one_more calendar b bytes lent =
   where
     put : (r : Record) (file : Option File)
         → length (files_of (book_of b.today (with_file r.premise file (files_of b)))) ≤ suc (length (files_of b))
-    put r none = omega (
+    put r None = omega (
       arith,
-      ap length (holds_its_files b.today (with_file r.premise none (files_of b))),
+      ap length (holds_its_files b.today (with_file r.premise None (files_of b))),
       taken-length r.premise (files_of b),
     )
-    put r (some f) = omega (
+    put r (Some f) = omega (
       arith,
-      ap length (holds_its_files b.today (with_file r.premise (some f) (files_of b))),
+      ap length (holds_its_files b.today (with_file r.premise (Some f) (files_of b))),
       put_length f (files_of b),
     )
 
 -- with a place left nothing meets row 6
-place_left : (b : Book) (d : Reading) → suc (length (files_of b)) ≤ most_files → meets_row6 b d ≡ false
-place_left b Malformed h = refl
-place_left b (Says r) h =
+place_left : (b : Book) (d : Option Record) → suc (length (files_of b)) ≤ most_files → meets_row6 b d ≡ false
+place_left b None h = refl
+place_left b (Some r) h =
     ap (λ (full : Bool). is kind_create r && not (is_held (file_for r.premise (files_of b))) && full)
     (ne_eqb (length (files_of b)) most_files (λ e. omega (arith, e, h)))
     ∙ and-false (is kind_create r && not (is_held (file_for r.premise (files_of b))))
@@ -137,7 +135,7 @@ module _ {X : Type 0} (x y : X) (xs ys : List X) where
   rest_same false e = e
 
 abbrev MalformedGot3 : Made → Type 0
-MalformedGot3 m = reading m.bytes ≡ Malformed → number m.reply.answer ≡ 3
+MalformedGot3 m = reading m.bytes ≡ None → number m.reply.answer ≡ 3
 
 malformed_got_3 : (calendar : List ℕ) (b : Book) (ms : List Made) → book_kept b ≡ true → Played calendar b ms → AllAllowed b ms
     → Each MalformedGot3 ms
@@ -151,15 +149,15 @@ abbrev number_of : Made → ℕ
 number_of m = number m.reply.answer
 
 -- a record's answer is among those of its premise, a day mark's among those of any
-record Concerned (d : Reading) : Type 0 where
+record Concerned (d : Option Record) : Type 0 where
   premise : ℕ
   ranged : Premise premise
   concerned : concerns premise d ≡ true
 
-concerned : (r : Record) → SoundIn (Says r) → Concerned (Says r)
+concerned : (r : Record) → SoundIn (Some r) → Concerned (Some r)
 concerned r s = go (is kind_day_mark r) refl
   where
-    go : (mark : Bool) → is kind_day_mark r ≡ mark → Concerned (Says r)
+    go : (mark : Bool) → is kind_day_mark r ≡ mark → Concerned (Some r)
     go true t = record { premise = 1; ranged = record { above = omega arith; below = omega arith }; concerned = rw t refl }
     go false t = record {
       premise = r.premise;
@@ -173,15 +171,15 @@ same_number : (m n : Made) (ms ns : List Made) → Bytes m.bytes → reading m.b
     → ((premise : ℕ) → Premise premise → answers premise (m ∷ ms) ≡ answers premise (n ∷ ns)) → number_of m ≡ number_of n
 same_number m n ms ns real e three three₂ same = go (reading m.bytes) refl (sound m.bytes real)
   where
-    go : (d : Reading) → reading m.bytes ≡ d → SoundIn d → number_of m ≡ number_of n
-    go Malformed t s = three t ∙ sym (three₂ (sym e ∙ t))
-    go (Says r) t s =
+    go : (d : Option Record) → reading m.bytes ≡ d → SoundIn d → number_of m ≡ number_of n
+    go None t s = three t ∙ sym (three₂ (sym e ∙ t))
+    go (Some r) t s =
         let o = concerned r s in
-        let both : cond (concerns o.premise (Says r)) (number_of m ∷ answers o.premise ms) (answers o.premise ms)
-        ≡ cond (concerns o.premise (Says r)) (number_of n ∷ answers o.premise ns) (answers o.premise ns) =
+        let both : cond (concerns o.premise (Some r)) (number_of m ∷ answers o.premise ms) (answers o.premise ms)
+        ≡ cond (concerns o.premise (Some r)) (number_of n ∷ answers o.premise ns) (answers o.premise ns) =
         rw (t, sym e ∙ t) at (same o.premise o.ranged) in
         first_same (number_of m) (number_of n) (answers o.premise ms) (answers o.premise ns)
-        (concerns o.premise (Says r)) o.concerned both
+        (concerns o.premise (Some r)) o.concerned both
 
 same_numbers : (ms ns : List Made) → tape_of ms ≡ tape_of ns → Each (λ (m : Made). Bytes m.bytes) ms
     → Each MalformedGot3 ms → Each MalformedGot3 ns → ((premise : ℕ) → Premise premise → answers premise ms ≡ answers premise ns)

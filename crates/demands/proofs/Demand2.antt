@@ -7,12 +7,13 @@ use lib.Dec.{eqb}
 use lib.ListN.{length}
 use borrow.Author.Tests.{eq-eqb, ne_eqb, lt-ltb, le-ltb}
 use Rattle.records.specs.declared.Record.{Record}
-use Rattle.records.specs.declared.Reading.TheVariants.{Says}
+use Rattle.std.specs.Prelude.{Some}
 use Rattle.records.specs.Records.{reading, kind_day_mark}
 use Rattle.records.proofs.Emits.{emits_as}
 use Rattle.records.proofs.Readings.{says}
 use Rattle.premise.specs.declared.File.{File}
-use Rattle.premise.specs.declared.Answer.TheVariants.{Accepted, NotNextDay}
+use Rattle.std.specs.Prelude.{Ok, Err}
+use Rattle.premise.specs.declared.Refusal.TheVariants.{NotNextDay}
 use Rattle.premise.specs.Steps.{is}
 use Rattle.premise.specs.Refusals.{number}
 use Rattle.premise.specs.OnePremise.{State, Given, step}
@@ -58,7 +59,7 @@ day_of : (today : ℕ) (fs : List File) → (book_of today fs).today ≡ today
 unfolding book_of
 day_of today fs = refl
 
-accepted_zero : number Accepted ≡ 0
+accepted_zero : number (Ok tt) ≡ 0
 unfolding number
 accepted_zero = refl
 
@@ -84,12 +85,12 @@ of_a_premise calendar b bytes before reply after p past r e other places =
     }
 
 -- ---- a day mark
-module _ (calendar : List ℕ) (b : Book) (bytes before : List ℕ) (past : PastRows1And2 b before) (r : Record) (e : reading bytes ≡ Says r)
+module _ (calendar : List ℕ) (b : Book) (bytes before : List ℕ) (past : PastRows1And2 b before) (r : Record) (e : reading bytes ≡ Some r)
     (mark : is kind_day_mark r ≡ true) where
   marks : (next : Bool) → eqb r.day (b.today + 1) ≡ next
-      → call calendar b bytes before ≡ cond next (marked_book calendar b r.day) (refusal NotNextDay b)
+      → call calendar b bytes before ≡ cond next (marked_book calendar b r.day) (refusal (Err NotNextDay) b)
   marks next t = call_on_mark calendar b bytes before r past.kept past.room e mark
-      ∙ ap (λ (c : Bool). cond c (marked_book calendar b r.day) (refusal NotNextDay b)) t
+      ∙ ap (λ (c : Bool). cond c (marked_book calendar b r.day) (refusal (Err NotNextDay) b)) t
 
 pub of_the_next_day : OfTheNextDay
 of_the_next_day calendar b bytes before reply after p past r e mark next =

@@ -3,18 +3,17 @@
 use Prim.Native.Nat.{ℕ, ◌+◌}
 use mathlib.Core.Path.{◌≡◌, refl}
 use mathlib.Core.List.{List}
-use mathlib.Core.Option.{Option, none, some}
+use Rattle.std.specs.Prelude.{Option, Some, None}
 use mathlib.Core.Bool.{Bool, true, false, cond}
 use lib.Dec.{eqb}
 use Rattle.lists.specs.Search.{Each}
 use Rattle.records.specs.declared.Record.{Record}
-use Rattle.records.specs.declared.Reading.{Reading}
-use Rattle.records.specs.declared.Reading.TheVariants.{Malformed, Says}
 use Rattle.records.specs.Layout.{Bytes}
 use Rattle.records.specs.Records.{reading, kind_day_mark, well_formed}
 use Rattle.records.proofs.Readings.{says, said_in_width}
 use Rattle.premise.specs.declared.File.{File}
-use Rattle.premise.specs.declared.Answer.TheVariants.{NotNextDay}
+use Rattle.std.specs.Prelude.{Err}
+use Rattle.premise.specs.declared.Refusal.TheVariants.{NotNextDay}
 use Rattle.premise.specs.Steps.{is}
 use Rattle.premise.specs.OnePremise.{step}
 use Rattle.premise_laws.specs.Laws.{Held, KeptFor}
@@ -43,16 +42,16 @@ pub record Sound (r : Record) : Type 0 where
   pub formed : well_formed r ≡ true
   pub ranged : is kind_day_mark r ≡ false → Premise r.premise
 
-abbrev pub SoundIn : Reading → Type 0
-SoundIn Malformed = Unit {0}
-SoundIn (Says r) = Sound r
+abbrev pub SoundIn : Option Record → Type 0
+SoundIn None = Unit {0}
+SoundIn (Some r) = Sound r
 
 pub sound : (bytes : List ℕ) → Bytes bytes → SoundIn (reading bytes)
 sound bytes u = go (reading bytes) refl
   where
-    go : (d : Reading) → reading bytes ≡ d → SoundIn d
-    go Malformed e = tt
-    go (Says r) e =
+    go : (d : Option Record) → reading bytes ≡ d → SoundIn d
+    go None e = tt
+    go (Some r) e =
         let s = says bytes r e in
         record {
           formed = s.formed;
@@ -72,20 +71,20 @@ module _ (calendar : List ℕ) (b : Book) (k : OnWay b) where
       k.ranged)
     where
       go : (file : Option File) → Held (KeptFor r.premise) file → Held (λ f. Premise f.premise) file
-      go none h = tt
-      go (some f) h = rw h.number (s.ranged t)
+      go None h = tt
+      go (Some f) h = rw h.number (s.ranged t)
 
   ranged_mark : (r : Record) → InRange (files_of (on_day_mark calendar b r).book)
   ranged_mark r = go (eqb r.day (b.today + 1))
     where
-      go : (next : Bool) → InRange (files_of (cond next (marked_book calendar b r.day) (refusal NotNextDay b)).book)
+      go : (next : Bool) → InRange (files_of (cond next (marked_book calendar b r.day) (refusal (Err NotNextDay) b)).book)
       go true = ranged_of r.day (marked_files calendar r.day (files_of b))
           (marked_numbers calendar r.day Premise (files_of b) k.kept.files k.ranged)
       go false = k.ranged
 
-  pub ranged_acted : (d : Reading) → SoundIn d → InRange (files_of (acted calendar b d).book)
-  ranged_acted Malformed s = k.ranged
-  ranged_acted (Says r) s = go (is kind_day_mark r) refl
+  pub ranged_acted : (d : Option Record) → SoundIn d → InRange (files_of (acted calendar b d).book)
+  ranged_acted None s = k.ranged
+  ranged_acted (Some r) s = go (is kind_day_mark r) refl
     where
       go : (mark : Bool) → is kind_day_mark r ≡ mark → InRange (files_of (cond mark (on_day_mark calendar b r) (as_one calendar b r)).book)
       go true t = ranged_mark r

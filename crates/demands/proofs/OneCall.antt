@@ -7,11 +7,11 @@ use mathlib.Core.Bool.{Bool, true, false, cond}
 use lib.Dec.{eqb}
 use borrow.Author.Tests.{eqb-true, eqb-false}
 use Rattle.records.specs.declared.Record.{Record}
-use Rattle.records.specs.declared.Reading.{Reading}
-use Rattle.records.specs.declared.Reading.TheVariants.{Malformed, Says}
+use Rattle.std.specs.Prelude.{Option, Some, None}
 use Rattle.records.specs.Records.{kind_day_mark}
 use Rattle.records.specs.Notices.{encode}
-use Rattle.premise.specs.declared.Answer.TheVariants.{NotNextDay}
+use Rattle.std.specs.Prelude.{Err}
+use Rattle.premise.specs.declared.Refusal.TheVariants.{NotNextDay}
 use Rattle.premise.specs.Steps.{is}
 use Rattle.premise.specs.Refusals.{number}
 use Rattle.premise.specs.OnePremise.{Given, refused, step, runs, end_state}
@@ -43,11 +43,11 @@ record Unseen (premise : ℕ) (b : Book) (x : Result) : Type 0 where
   notices : with_premise premise (map encode x.notices) ≡ []
 
 -- The records that concern the premise in a call: one or none.
-abbrev pub mine : ℕ → Reading → List Record
+abbrev pub mine : ℕ → Option Record → List Record
 mine premise d = cond (concerns premise d) (said d) []
 
 -- a call: what the one-premise rules give, fed the records that concern the premise
-pub record Agrees (calendar : List ℕ) (premise : ℕ) (b : Book) (d : Reading) (x : Result) : Type 0 where
+pub record Agrees (calendar : List ℕ) (premise : ℕ) (b : Book) (d : Option Record) (x : Result) : Type 0 where
   pub state : premise_state x.book premise ≡ end_state calendar (premise_state b premise) (mine premise d)
   pub answered : cond (concerns premise d) (number x.answer ∷ []) []
       ≡ ruled_answers (runs calendar (premise_state b premise) (mine premise d))
@@ -63,8 +63,8 @@ module _ (calendar : List ℕ) (b : Book) (k : OnWay b) where
   given_mark premise r t = rw (mark_step calendar (premise_state b premise) r t) (go (eqb r.day (b.today + 1)))
     where
       go : (next : Bool)
-          → AsGiven premise (cond next (marked_book calendar b r.day) (refusal NotNextDay b))
-          (cond next (marked_or calendar r.day (file_for premise (files_of b))) (refused NotNextDay (premise_state b premise)))
+          → AsGiven premise (cond next (marked_book calendar b r.day) (refusal (Err NotNextDay) b))
+          (cond next (marked_or calendar r.day (file_for premise (files_of b))) (refused (Err NotNextDay) (premise_state b premise)))
       go true = record {
         state = state_of r.day premise (marked_files calendar r.day (files_of b))
             ∙ marked_state calendar r.day premise (files_of b) k.kept.files;
@@ -107,12 +107,12 @@ module _ (calendar : List ℕ) (b : Book) (k : OnWay b) where
         }
 
   -- ---- a call
-  pub agrees : (premise : ℕ) (d : Reading) → SoundIn d → Agrees calendar premise b d (acted calendar b d)
-  agrees premise Malformed s = record { state = refl; answered = refl; notices = refl }
-  agrees premise (Says r) s = go (is kind_day_mark r) (eqb r.premise premise) refl refl
+  pub agrees : (premise : ℕ) (d : Option Record) → SoundIn d → Agrees calendar premise b d (acted calendar b d)
+  agrees premise None s = record { state = refl; answered = refl; notices = refl }
+  agrees premise (Some r) s = go (is kind_day_mark r) (eqb r.premise premise) refl refl
     where
       go : (mark own : Bool) → is kind_day_mark r ≡ mark → eqb r.premise premise ≡ own
-          → Agrees calendar premise b (Says r) (acted calendar b (Says r))
+          → Agrees calendar premise b (Some r) (acted calendar b (Some r))
       go true own t e =
           let g = given_mark premise r t in
           record {

@@ -9,8 +9,8 @@ use lib.Dec.{eqb}
 use borrow.Author.Tests.{eqb-true, eqb-false, ne_eqb, not-true}
 use Rattle.lists.specs.Search.{Each}
 use Rattle.lists.proofs.TestLaws.{and_left, and_right}
-use Rattle.records.specs.declared.Reading.{Reading}
-use Rattle.records.specs.declared.Reading.TheVariants.{Malformed, Says}
+use Rattle.std.specs.Prelude.{Option, Some, None}
+use Rattle.records.specs.declared.Record.{Record}
 use Rattle.records.specs.Records.{reading, kind_day_mark}
 use Rattle.records.specs.Notices.{rows}
 use Rattle.premise.specs.Steps.{is}
@@ -42,9 +42,9 @@ nobody_sees calendar start tape tape₂ ms ns p q agree =
     }
 
 -- a premise's record concerns no other premise
-concerns_one : (here premise : ℕ) (d : Reading) → of_premise here d ≡ true → concerns premise d ≡ eqb here premise
-concerns_one here premise Malformed e = absurd (false≢true e)
-concerns_one here premise (Says r) e =
+concerns_one : (here premise : ℕ) (d : Option Record) → of_premise here d ≡ true → concerns premise d ≡ eqb here premise
+concerns_one here premise None e = absurd (false≢true e)
+concerns_one here premise (Some r) e =
     let other : is kind_day_mark r ≡ false = not-true (is kind_day_mark r) (and_left (not (is kind_day_mark r)) (eqb r.premise here) e) in
     let own : r.premise ≡ here = eqb-true r.premise here (and_right (not (is kind_day_mark r)) (eqb r.premise here) e) in
     ap (λ c. cond c true (eqb r.premise premise)) other ∙ ap (λ n. eqb n premise) own
@@ -87,10 +87,10 @@ only_marks : (gone : ℕ) (tape : List (List ℕ)) → Each Mark (records (own_o
 only_marks gone [] = tt
 only_marks gone (bytes ∷ tape) = go (reading bytes) refl (only_marks gone tape)
   where
-    go : (d : Reading) → reading bytes ≡ d → Each Mark (records (own_of gone (without gone tape)))
+    go : (d : Option Record) → reading bytes ≡ d → Each Mark (records (own_of gone (without gone tape)))
         → Each Mark (records (own_of gone (cond (of_premise gone d) (without gone tape) (bytes ∷ without gone tape))))
-    go Malformed e ih = rw e ih
-    go (Says r) e ih = by (is kind_day_mark r) (eqb r.premise gone) refl refl
+    go None e ih = rw e ih
+    go (Some r) e ih = by (is kind_day_mark r) (eqb r.premise gone) refl refl
       where
         by : (mark own : Bool) → is kind_day_mark r ≡ mark → eqb r.premise gone ≡ own
             → Each Mark (records (own_of gone (cond (not mark && own) (without gone tape) (bytes ∷ without gone tape))))

@@ -2,7 +2,7 @@
 use Prim.Native.Nat.{ℕ, ◌+◌, min}
 use mathlib.Core.Path.{◌≡◌, refl, ap, sym, subst, ◌∙◌}
 use mathlib.Core.List.{List, [], ◌∷◌, ◌++◌, map}
-use mathlib.Core.Option.{none}
+use Rattle.std.specs.Prelude.{None}
 use mathlib.Core.Bool.{Bool, true, false, cond}
 use lib.Dec.{eqb}
 use Rattle.lists.specs.Search.{Each}
@@ -10,7 +10,8 @@ use Rattle.days.specs.Days.{last_day}
 use Rattle.records.specs.declared.Record.{Record}
 use Rattle.records.specs.Records.{reading, kind_day_mark}
 use Rattle.records.specs.Notices.{encode}
-use Rattle.premise.specs.declared.Answer.TheVariants.{NotNextDay}
+use Rattle.std.specs.Prelude.{Err}
+use Rattle.premise.specs.declared.Refusal.TheVariants.{NotNextDay}
 use Rattle.premise.specs.Steps.{is}
 use Rattle.premise.specs.OnePremise.{Given, refused, start_state, runs, end_state}
 use Rattle.premise.specs.Laws.{marked_or}
@@ -89,14 +90,14 @@ Mark r = is kind_day_mark r ≡ true
 
 module _ (calendar : List ℕ) where
   record Still (today : ℕ) (rs : List Record) : Type 0 where
-    file : (end_state calendar (record { today = today; file = none }) rs).file ≡ none
-    notices : ruled_notices (runs calendar (record { today = today; file = none }) rs) ≡ []
+    file : (end_state calendar (record { today = today; file = None }) rs).file ≡ None
+    notices : ruled_notices (runs calendar (record { today = today; file = None }) rs) ≡ []
 
   abbrev given : ℕ → Record → Bool → Given
-  given today r next = cond next (marked_or calendar r.day none) (refused NotNextDay (record { today = today; file = none }))
+  given today r next = cond next (marked_or calendar r.day None) (refused (Err NotNextDay) (record { today = today; file = None }))
 
   record Goes (today : ℕ) (r : Record) (rs : List Record) (g : Given) : Type 0 where
-    file : (end_state calendar g.state rs).file ≡ none
+    file : (end_state calendar g.state rs).file ≡ None
     notices : map encode g.notices ++ ruled_notices (runs calendar g.state rs) ≡ []
 
   goes : (today : ℕ) (r : Record) (rs : List Record) → ((t : ℕ) → Still t rs) → (next : Bool) → Goes today r rs (given today r next)
@@ -105,7 +106,7 @@ module _ (calendar : List ℕ) where
 
   still_more : (today : ℕ) (r : Record) (rs : List Record) → Mark r → ((t : ℕ) → Still t rs) → Still today (r ∷ rs)
   still_more today r rs m ih =
-      let g = subst (Goes today r rs) (sym (mark_step calendar (record { today = today; file = none }) r m))
+      let g = subst (Goes today r rs) (sym (mark_step calendar (record { today = today; file = None }) r m))
       (goes today r rs ih (eqb r.day (today + 1))) in
       record { file = g.file; notices = g.notices }
 

@@ -4,7 +4,7 @@ use Rattle.std.specs.Prelude.{ℕ, ◌*◌, ◌≤◌, ◌≡◌, List, [], ◌�
 use Rattle.lists.specs.Search.{Each}
 use Rattle.records.specs.Layout.{record_length}
 use Rattle.records.specs.Notices.{encode_all, rows}
-use Rattle.premise.specs.declared.Answer.TheVariants.{Accepted}
+use Rattle.std.specs.Prelude.{Ok}
 use Rattle.premise.specs.Refusals.{number}
 use Rattle.book.specs.declared.Book.{Book}
 use Rattle.book.specs.declared.Playback.{Playback}
@@ -47,7 +47,7 @@ CoursesCanBePlayed =
     (record {
       played = length c.results;
       sent = length (notices_of c.results);
-      last = last_answer Accepted c.results;
+      last = last_answer (Ok tt) c.results;
       book = c.book;
     })
     answers (answers_of c.results ++ drop (length (answers_of c.results)) answers)

@@ -2,7 +2,7 @@
 -- proofs/Demand2.antt proves it (`demand_2`). What a refused call leaves is demand 1.
 use Rattle.std.specs.Prelude.{ℕ, ◌+◌, ◌≤◌, ◌<◌, ◌≡◌, List, true, false, length}
 use Rattle.records.specs.declared.Record.{Record}
-use Rattle.records.specs.declared.Reading.TheVariants.{Malformed, Says}
+use Rattle.std.specs.Prelude.{Some, None}
 use Rattle.records.specs.Records.{reading, kind_day_mark}
 use Rattle.records.specs.Notices.{Emits}
 use Rattle.premise.specs.Steps.{is}
@@ -34,7 +34,7 @@ abbrev pub OfAPremise : Type 0
 OfAPremise =
     (calendar : List ℕ) (b : Book) (bytes before : List ℕ) (reply : Reply) (after : List ℕ)
     → Promised calendar b bytes before reply after → PastRows1And2 b before
-    → (r : Record) → reading bytes ≡ Says r → is kind_day_mark r ≡ false → meets_row6 b (Says r) ≡ false
+    → (r : Record) → reading bytes ≡ Some r → is kind_day_mark r ≡ false → meets_row6 b (Some r) ≡ false
     → AsOnePremise calendar b before r reply after
 
 -- ---- a day mark
@@ -52,7 +52,7 @@ abbrev pub OfTheNextDay : Type 0
 OfTheNextDay =
     (calendar : List ℕ) (b : Book) (bytes before : List ℕ) (reply : Reply) (after : List ℕ)
     → Promised calendar b bytes before reply after → PastRows1And2 b before
-    → (r : Record) → reading bytes ≡ Says r → is kind_day_mark r ≡ true → r.day ≡ b.today + 1
+    → (r : Record) → reading bytes ≡ Some r → is kind_day_mark r ≡ true → r.day ≡ b.today + 1
     → MarksEach calendar b before r.day reply after
 
 -- On any other day it gets 15.
@@ -60,7 +60,7 @@ abbrev pub OfAnotherDay : Type 0
 OfAnotherDay =
     (calendar : List ℕ) (b : Book) (bytes before : List ℕ) (reply : Reply) (after : List ℕ)
     → Promised calendar b bytes before reply after → PastRows1And2 b before
-    → (r : Record) → reading bytes ≡ Says r → is kind_day_mark r ≡ true → (r.day ≡ b.today + 1 → ⊥)
+    → (r : Record) → reading bytes ≡ Some r → is kind_day_mark r ≡ true → (r.day ≡ b.today + 1 → ⊥)
     → number reply.answer ≡ 15
 
 -- ---- the rows that the one-premise rules don't have
@@ -77,7 +77,7 @@ DamagedBookGets2 =
 abbrev pub MalformedGets3 : Type 0
 MalformedGets3 =
     (calendar : List ℕ) (b : Book) (bytes before : List ℕ) (reply : Reply) (after : List ℕ)
-    → Promised calendar b bytes before reply after → PastRows1And2 b before → reading bytes ≡ Malformed → number reply.answer ≡ 3
+    → Promised calendar b bytes before reply after → PastRows1And2 b before → reading bytes ≡ None → number reply.answer ≡ 3
 
 abbrev pub NoPlaceGets6 : Type 0
 NoPlaceGets6 =

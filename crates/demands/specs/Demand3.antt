@@ -2,8 +2,7 @@
 -- promise; proofs/Demand3.antt proves it (`demand_3`).
 use Rattle.std.specs.Prelude.{ℕ, ◌≤◌, ◌<◌, ◌≡◌, List, [], ◌∷◌, ◌++◌, map, Bool, true, false, cond, eqb, length}
 use Rattle.records.specs.declared.Record.{Record}
-use Rattle.records.specs.declared.Reading.{Reading}
-use Rattle.records.specs.declared.Reading.TheVariants.{Malformed, Says}
+use Rattle.std.specs.Prelude.{Option, Some, None}
 use Rattle.records.specs.Layout.{Layout, wide, Bytes, premise_field, field_of}
 use Rattle.records.specs.Records.{reading, kind_day_mark}
 use Rattle.records.specs.Notices.{encode, rows}
@@ -57,9 +56,9 @@ pub record Premise (premise : ℕ) : Type 0 where
   pub below : premise < 18446744073709551616
 
 -- Its own records are those with its P in bytes 8 to 15 that don't meet row 3; a day mark that meets row 3 counts for nobody.
-abbrev pub concerns : ℕ → Reading → Bool
-concerns premise Malformed = false
-concerns premise (Says r) = cond (is kind_day_mark r) true (eqb r.premise premise)
+abbrev pub concerns : ℕ → Option Record → Bool
+concerns premise None = false
+concerns premise (Some r) = cond (is kind_day_mark r) true (eqb r.premise premise)
 
 -- its own records and the day marks, in tape order, as bytes ..
 abbrev pub own_bytes : ℕ → List Made → List (List ℕ)
@@ -67,9 +66,9 @@ own_bytes premise [] = []
 own_bytes premise (m ∷ ms) = cond (concerns premise (reading m.bytes)) (m.bytes ∷ own_bytes premise ms) (own_bytes premise ms)
 
 -- .. and what they say
-abbrev pub said : Reading → List Record
-said Malformed = []
-said (Says r) = r ∷ []
+abbrev pub said : Option Record → List Record
+said None = []
+said (Some r) = r ∷ []
 
 abbrev pub records : List (List ℕ) → List Record
 records [] = []

@@ -3,9 +3,8 @@
 -- premise has, in its home, what the one-premise rules give from its own records and the day marks of the whole tape; no other book has a
 -- file or a notice of it; and any other fleet that is fed a tape which agrees premise by premise has the same.
 use Rattle.std.specs.Prelude.{ℕ, ◌<◌, ◌≡◌, List, [], ◌∷◌, Bool, true, cond, eqb}
-use Rattle.std.proofs.Math.Option.{none}
-use Rattle.records.specs.declared.Reading.{Reading}
-use Rattle.records.specs.declared.Reading.TheVariants.{Malformed, Says}
+use Rattle.std.specs.Prelude.{Option, Some, None}
+use Rattle.records.specs.declared.Record.{Record}
 use Rattle.records.specs.Records.{reading, kind_day_mark}
 use Rattle.premise.specs.Steps.{is}
 use Rattle.premise.specs.OnePremise.{start_state, runs, end_state}
@@ -14,9 +13,9 @@ use Rattle.demands.specs.Demand3.{Made, last_book, Premise, records, answers, no
 use Rattle.demands.specs.Tapes.{Plays, own_of}
 
 -- what goes to book k: every day mark, and the records of the premises whose home it is; what is malformed goes wherever `stray` says
-abbrev pub goes_to : (ℕ → ℕ) → (List ℕ → ℕ → Bool) → ℕ → List ℕ → Reading → Bool
-goes_to home stray k bytes Malformed = stray bytes k
-goes_to home stray k bytes (Says r) = cond (is kind_day_mark r) true (eqb (home r.premise) k)
+abbrev pub goes_to : (ℕ → ℕ) → (List ℕ → ℕ → Bool) → ℕ → List ℕ → Option Record → Bool
+goes_to home stray k bytes None = stray bytes k
+goes_to home stray k bytes (Some r) = cond (is kind_day_mark r) true (eqb (home r.premise) k)
 
 abbrev pub share : (ℕ → ℕ) → (List ℕ → ℕ → Bool) → ℕ → List (List ℕ) → List (List ℕ)
 share home stray k [] = []
@@ -48,7 +47,7 @@ FleetAsRuled =
 -- ---- away from home
 -- a book that is not a premise's home knows nothing of it
 pub record Silent (start premise : ℕ) (ms : List Made) : Type 0 where
-  pub file : file_for premise (files_of (last_book (fresh_book start) ms)) ≡ none
+  pub file : file_for premise (files_of (last_book (fresh_book start) ms)) ≡ None
   pub notices : notices_for premise ms ≡ []
 
 abbrev pub OthersSilent : Type 0

@@ -1,7 +1,7 @@
 -- A tape put together in another way, from demands 1 and 3; proofs/Rearranged.antt proves it. Every line is written out here, so that none
 -- of them gets weaker with the statements that it follows from.
 use Rattle.std.specs.Prelude.{ℕ, ◌≡◌, List, [], ◌∷◌, ◌++◌, true}
-use Rattle.std.proofs.Math.Option.{none}
+use Rattle.std.specs.Prelude.{None}
 use Rattle.records.specs.Records.{reading}
 use Rattle.premise.specs.Refusals.{number}
 use Rattle.book.specs.Book.{files_of, fresh_book, file_for}
@@ -33,7 +33,7 @@ pub record AsIfAlone (start gone : ℕ) (ms ns : List Made) : Type 0 where
   pub answered : (premise : ℕ) → Premise premise → (gone ≡ premise → ⊥) → answers premise ms ≡ answers premise ns
   pub notices : (premise : ℕ) → Premise premise → (gone ≡ premise → ⊥) → notices_for premise ms ≡ notices_for premise ns
   pub today : (last_book (fresh_book start) ms).today ≡ (last_book (fresh_book start) ns).today
-  pub no_file : file_for gone (files_of (last_book (fresh_book start) ns)) ≡ none
+  pub no_file : file_for gone (files_of (last_book (fresh_book start) ns)) ≡ None
   pub no_notice : notices_for gone ns ≡ []
 
 -- The tape is played once whole, and once without any record of one premise.

@@ -1,7 +1,7 @@
 -- A tape of records, as bytes, and the calls that were made of it: what the corollaries of demand 3 speak of.
 use Rattle.std.specs.Prelude.{ℕ, ◌≡◌, List, [], ◌∷◌, map, Bool, false, cond, not, ◌&&◌, eqb}
-use Rattle.records.specs.declared.Reading.{Reading}
-use Rattle.records.specs.declared.Reading.TheVariants.{Malformed, Says}
+use Rattle.std.specs.Prelude.{Option, Some, None}
+use Rattle.records.specs.declared.Record.{Record}
 use Rattle.records.specs.Records.{reading, kind_day_mark}
 use Rattle.premise.specs.Steps.{is}
 use Rattle.book.specs.Book.{fresh_book}
@@ -23,9 +23,9 @@ own_of premise [] = []
 own_of premise (bytes ∷ tape) = cond (concerns premise (reading bytes)) (bytes ∷ own_of premise tape) (own_of premise tape)
 
 -- a record of a premise: well formed, no day mark, with its number
-abbrev pub of_premise : ℕ → Reading → Bool
-of_premise premise Malformed = false
-of_premise premise (Says r) = not (is kind_day_mark r) && eqb r.premise premise
+abbrev pub of_premise : ℕ → Option Record → Bool
+of_premise premise None = false
+of_premise premise (Some r) = not (is kind_day_mark r) && eqb r.premise premise
 
 -- a tape without the records of a premise
 abbrev pub without : ℕ → List (List ℕ) → List (List ℕ)

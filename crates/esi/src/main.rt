@@ -1,19 +1,17 @@
 // esi DIRECTORY TEXT..: looks each text up in a directory of ESI IDs, and prints a line for each, the answer's number and the premise
-// number.
-// The directory is tested once. What is wrong, and what to do, goes to standard error, and then no line is printed.
+// number. The directory is tested once. What is wrong, and what to do, goes to standard error, and then no line is printed.
 #![tactic(auto)]
 
 mod lines;
 
-ghost use Rattle.std.specs.Prelude.{◌≡◌, ◌≤◌, length};
+ghost use Rattle.std.specs.Prelude.{◌≡◌, ◌≤◌, length, IfOk, IfSome};
 ghost use Rattle.esi.specs.Lines.{line_most};
-ghost use Rattle.esi_rules.specs.Directory.{sound as Directory·sound};
+ghost use Rattle.esi_rules.specs.Directory.{sound as directory_is_sound};
 ghost use Rattle.esi_rules.specs.LookUp.{look_up};
 
-use esi_rules::{Answer, LookedUp};
+use esi_rules::Refusal;
 use std::io;
 use std::rt::Env;
-use tape_io::Got;
 
 // The most bytes of a directory: 2,730 records.
 const DIRECTORY_BYTES: usize = 65_520;
@@ -38,55 +36,53 @@ fn complain(rt: &HostRuntime, path: &[u8], error: io::Error) {
     );
 }
 
-// Reads a directory of a name.
-fn read_named(rt: &HostRuntime, path: &[u8], buffer: &mut [u8]) -> Got
-    ensures { result.count ≤ length buffer.new }
+// Reads a directory of a name; how many bytes came.
+fn read_named(rt: &HostRuntime, path: &[u8], buffer: &mut [u8]) -> io::Result<usize>
+    ensures { IfOk result (λ n. n ≤ length buffer.new) }
 {
-    let got = match tape_io::open(rt, path) {
-        Ok(mut file) => tape_io::read_up_to(&mut file, buffer),
-        Err(error) => tape_io::failed_with(error),
-    };
-    if let Some(error) = got.failed {
-        complain(rt, path, error);
-    }
-    got
+    let mut file = tape_io::open(rt, path)?;
+    Ok(tape_io::fill(&mut file, buffer)?)
 }
 
-// Reads the directory that the first argument names.
-fn read_directory(rt: &HostRuntime, buffer: &mut [u8]) -> Got
-    ensures { result.count ≤ length buffer.new }
+// Reads the directory that the first argument names; what is wrong with it is said.
+fn read_directory(rt: &HostRuntime, buffer: &mut [u8]) -> Option<usize>
+    ensures { IfSome result (λ n. n ≤ length buffer.new) }
 {
     let mut path = [0u8; tape_io::WORD_BYTES];
-    match tape_io::file_name(rt, 1, &mut path) {
-        Ok(n) => read_named(rt, &path[0..n], buffer),
+    let n = match tape_io::file_name(rt, 1, &mut path) {
+        Ok(n) => n,
         Err(error) => {
             complain(rt, b"esi: the directory's name", error);
-            tape_io::failed_with(error)
+            return None;
+        }
+    };
+    match read_named(rt, &path[..n], buffer) {
+        Ok(count) => Some(count),
+        Err(error) => {
+            complain(rt, &path[..n], error);
+            None
         }
     }
 }
 
 // A look-up in a directory that was tested before: the test's result says whether it is sound.
-fn look_up_tested(directory: &[u8], sound: bool, text: &[u8]) -> LookedUp
-    requires { sound ≡ Directory·sound directory.now }
+fn look_up_tested(directory: &[u8], sound: bool, text: &[u8]) -> Result<u64, Refusal>
+    requires { sound ≡ directory_is_sound directory.now }
     ensures { result ≡ look_up directory.now text.now }
 {
-    if sound {
-        return esi_directory::find(directory, text);
+    if !sound {
+        return Err(Refusal::DirectoryUnsound);
     }
-    LookedUp {
-        answer: Answer::DirectoryUnsound,
-        premise: 0,
-    }
+    esi_directory::find(directory, text)
 }
 
 // Looks the text of an argument up. A text that is longer than the buffer counts as empty: neither is 17 or 22 digits.
-fn look_up_argument(rt: &impl Env, directory: &[u8], sound: bool, i: usize) -> LookedUp
-    requires { sound ≡ Directory·sound directory.now }
+fn look_up_argument(rt: &impl Env, directory: &[u8], sound: bool, i: usize) -> Result<u64, Refusal>
+    requires { sound ≡ directory_is_sound directory.now }
 {
     let mut text = [0u8; tape_io::WORD_BYTES];
     let n = tape_io::word(rt, i, &mut text);
-    look_up_tested(directory, sound, &text[0..n])
+    look_up_tested(directory, sound, &text[..n])
 }
 
 // Prints a line for each text, by way of a buffer, until a write fails.
@@ -100,17 +96,15 @@ fn answer_in(
 {
     let sound = esi_directory::is_sound(directory);
     let mut at: usize = 0;
-    let mut i: usize = FIRST_TEXT;
-    while i < count {
+    for i in FIRST_TEXT..count {
         if out.len() - at < lines::LINE_MOST {
-            rt.write_all(&out[0..at])?;
+            rt.write_all(&out[..at])?;
             at = 0;
         }
-        let found = look_up_argument(rt, directory, sound, i);
-        at = lines::put_line(found, at, out);
-        i += 1;
+        let answer = look_up_argument(rt, directory, sound, i);
+        at = lines::put_line(answer, at, out);
     }
-    rt.write_all(&out[0..at])
+    rt.write_all(&out[..at])
 }
 
 // The same in a buffer of its own.
@@ -130,11 +124,9 @@ fn main(rt: HostRuntime) {
         return;
     }
     let mut directory = [0u8; DIRECTORY_BYTES + 1];
-    let got = read_directory(&rt, &mut directory);
-    if got.failed.is_some() {
+    let Some(n) = read_directory(&rt, &mut directory) else {
         return;
-    }
-    let n = got.count;
+    };
     if DIRECTORY_BYTES < n {
         advise(
             &rt,

@@ -1,4 +1,4 @@
-// Packed decimal: two digits a byte, the first in the high half.
+// Packed decimal: two digits a byte, the first in the high half. Document 01 names the form: shifts and masks pack and unpack digit pairs.
 ghost use Rattle.std.specs.Prelude.{◌≡◌, ◌/◌, ◌%◌, ◌<◌};
 ghost use Rattle.esi_rules.specs.Packed.{pair};
 

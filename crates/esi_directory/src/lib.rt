@@ -8,5 +8,5 @@ mod search;
 mod soundness;
 mod texts;
 
-pub use search::{find, look_up, number_of};
+pub use search::{find, given_back, look_up, number_of};
 pub use soundness::is_sound;

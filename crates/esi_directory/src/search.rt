@@ -1,75 +1,62 @@
 // Looking up.
-ghost use Rattle.std.specs.Prelude.{◌≡◌, true};
+ghost use Rattle.std.specs.Prelude.{◌≡◌, true, option_map};
+ghost use Rattle.std.specs.List.{find};
 ghost use Rattle.esi_rules.specs.Directory.{sound};
-ghost use Rattle.esi_rules.specs.Directory.{records as Directory·records};
-ghost use Rattle.esi_rules.specs.LookUp.{number, premise_where, looked_up, look_up};
+ghost use Rattle.esi_rules.specs.Directory.{records as directory_records};
+ghost use Rattle.esi_rules.specs.Directory.{premise_of};
+ghost use Rattle.esi_rules.specs.LookUp.{number, given_back, look_up};
 ghost use Rattle.esi_rules.specs.Keys.{has_key};
 
 use crate::{keys, soundness, texts};
-use esi_rules::{Answer, Key, LookedUp};
+use esi_rules::{Key, Refusal};
 use records::RECORD_LENGTH;
 
 // The number of an answer.
-pub fn number_of(answer: Answer) -> u8
+pub fn number_of(answer: Result<u64, Refusal>) -> u8
     ensures { result ≡ number answer }
 {
     match answer {
-        Answer::Found => 0,
-        Answer::DirectoryUnsound => 20,
-        Answer::TextMalformed => 21,
-        Answer::NoRecord => 22,
+        Ok(_) => 0,
+        Err(refusal) => refusal as u8,
     }
 }
 
-// A refusal: its premise is 0.
-fn refused(answer: Answer) -> LookedUp
-    ensures { result ≡ looked_up answer 0 }
+// The premise number that an answer gives back: with a refusal 0.
+pub fn given_back(answer: Result<u64, Refusal>) -> u64
+    ensures { result ≡ given_back answer }
 {
-    LookedUp {
-        answer: answer,
-        premise: 0,
-    }
+    answer.unwrap_or(0)
 }
 
-// The premise number of the first record with these twelve bytes, or 0.
-fn premise_of(directory: &[u8], key: Key) -> u64
-    ensures { result ≡ premise_where (has_key key) (Directory·records directory.now) }
+// The premise number of the first record with these twelve bytes, if there is one.
+fn premise_of(directory: &[u8], key: Key) -> Option<u64>
+    ensures { result ≡ option_map premise_of (find (has_key key) (directory_records directory.now)) }
 {
-    let mut at: usize = 0;
-    while RECORD_LENGTH <= directory.len() - at {
-        if keys::has_key(directory, at, key) {
-            return keys::premise_at(directory, at);
-        }
-        at += RECORD_LENGTH;
-    }
-    0
+    let (records, _) = directory.as_chunks::<RECORD_LENGTH>();
+    records
+        .iter()
+        .find(|record| keys::key_of(*record) == key)
+        .map(|record| keys::premise_of(record))
 }
 
 // The same as `look_up`, in a directory that is known to be sound: it is not tested again.
-pub fn find(directory: &[u8], text: &[u8]) -> LookedUp
+pub fn find(directory: &[u8], text: &[u8]) -> Result<u64, Refusal>
     requires { sound directory.now ≡ true }
     ensures { result ≡ look_up directory.now text.now }
 {
     if !texts::is_id_text(text) {
-        return refused(Answer::TextMalformed);
+        return Err(Refusal::TextMalformed);
     }
-    let bytes = texts::packed_text(text);
-    let premise = premise_of(directory, keys::key_at(&bytes, 0));
-    if premise == 0 {
-        return refused(Answer::NoRecord);
-    }
-    LookedUp {
-        answer: Answer::Found,
-        premise: premise,
-    }
+    let key = keys::key_of(&texts::packed_text(text));
+    premise_of(directory, key).ok_or(Refusal::NoRecord)
 }
 
 // The premise number of a text's ESI ID.
-pub fn look_up(directory: &[u8], text: &[u8]) -> LookedUp
+pub fn look_up(directory: &[u8], text: &[u8]) -> Result<u64, Refusal>
     ensures { result ≡ look_up directory.now text.now }
 {
     if !soundness::is_sound(directory) {
-        return refused(Answer::DirectoryUnsound);
+        return Err(Refusal::DirectoryUnsound);
     }
     find(directory, text)
 }

@@ -9,8 +9,6 @@ use crate::halves;
 
 const ASCII_ZERO: u8 = b'0';
 
-const ASCII_NINE: u8 = b'9';
-
 // An ESI ID has 17 or 22 digits, and eleven bytes.
 pub const SHORT_COUNT: usize = 17;
 
@@ -21,25 +19,14 @@ pub const ID_BYTES: usize = 11;
 pub fn is_count(n: usize) -> bool
     ensures { result ≡ is_count n }
 {
-    (n == SHORT_COUNT) | (n == LONG_COUNT)
+    matches!(n, SHORT_COUNT | LONG_COUNT)
 }
 
 // Whether a text is 17 or 22 ASCII digits.
 pub fn is_id_text(text: &[u8]) -> bool
     ensures { result ≡ is_id_text text.now }
 {
-    if !is_count(text.len()) {
-        return false;
-    }
-    let mut i: usize = 0;
-    while i < text.len() {
-        let byte = text[i];
-        if !((ASCII_ZERO <= byte) & (byte <= ASCII_NINE)) {
-            return false;
-        }
-        i += 1;
-    }
-    true
+    is_count(text.len()) && text.iter().all(u8::is_ascii_digit)
 }
 
 // The half at a place: the text's digit, and behind its last an unused half.
@@ -60,10 +47,8 @@ pub fn packed_text(text: &[u8]) -> [u8; 12]
     ensures { result ≡ key_bytes (digits_of text.now) }
 {
     let mut bytes = [0u8; 12];
-    let mut i: usize = 0;
-    while i < ID_BYTES {
-        bytes[i] = halves::pack_pair(half_at(text, 2 * i), half_at(text, 2 * i + 1));
-        i += 1;
+    for place in 0..ID_BYTES {
+        bytes[place] = halves::pack_pair(half_at(text, 2 * place), half_at(text, 2 * place + 1));
     }
     bytes[ID_BYTES] = text.len() as u8;
     bytes

@@ -9,9 +9,6 @@ module _ {A : Type 0} (same : A → A → Bool) {x : A} {left rest : List A} (e 
   pub distinct_miss : any_of (same x) rest ≡ true → distinct same left ≡ false
   distinct_miss q = ap (distinct same) e ∙ ap (λ (b : Bool). not b && distinct same rest) q
 
-  pub distinct_next : any_of (same x) rest ≡ false → distinct same left ≡ distinct same rest
-  distinct_next q = ap (distinct same) e ∙ ap (λ (b : Bool). not b && distinct same rest) q
-
 pub distinct_end : {A : Type 0} (same : A → A → Bool) {left : List A} → left ≡ [] → distinct same left ≡ true
 distinct_end same e = rw e
 

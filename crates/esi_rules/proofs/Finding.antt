@@ -8,10 +8,11 @@ use borrow.Author.Tests.{not-true}
 use Rattle.lists.specs.Search.{any_of, all_of, Each}
 use Rattle.lists.proofs.TestLaws.{and_left, and_right, or_left, or_right}
 use Rattle.lists.proofs.SearchLaws.{each_of_all}
-use Rattle.esi_rules.specs.declared.Answer.TheVariants.{Found}
+use Rattle.std.specs.Prelude.{Ok, Err}
+use Rattle.esi_rules.specs.declared.Refusal.{Refusal}
 use Rattle.esi_rules.specs.Distinct.{distinct}
 use Rattle.esi_rules.specs.Directory.{records, premise_of, used_halves, is_count, record_kept, same_digits, same_id, same_premise, sound}
-use Rattle.esi_rules.specs.LookUp.{is_id_text, digits_of, text_of, has_digits, premise_where, looked_up, look_up}
+use Rattle.esi_rules.specs.LookUp.{is_id_text, digits_of, text_of, has_digits, premise_where, look_up}
 use Rattle.esi_rules.specs.Theorems.{EachIsFound, OnlyOne, FoundIsOnlyOne}
 use Rattle.esi_rules.proofs.Rows.{Long, long, each_both}
 use Rattle.esi_rules.proofs.KeyLaws.{rules_of, used_length, digits_of_all, same_refl, same_true, same_swap}
@@ -46,7 +47,7 @@ record Entered (row : List ℕ) : Type 0 where
   pub rules : record_kept row ≡ true
 
 found_by : (directory : List ℕ) → sound directory ≡ true → (row : List ℕ) → Entered row → Leads (records directory) row
-    → look_up directory (text_of (used_halves row)) ≡ looked_up Found (premise_of row)
+    → look_up directory (text_of (used_halves row)) ≡ Ok (premise_of row)
 found_by directory s row k leads =
     let r = rules_of row k.rules in
     let digits = used_halves row in
@@ -54,7 +55,7 @@ found_by directory s row k leads =
     let some = premise_some (has_digits digits) (records directory) (λ e. given row k.rules (sym leads ∙ e)) in
     let back = digits_back digits in
     look_found directory (text_of digits) s text (ap (λ (ds : List ℕ). any_of (has_digits ds) (records directory)) back ∙ some)
-    ∙ ap (looked_up Found) (ap (λ (ds : List ℕ). premise_where (has_digits ds) (records directory)) back ∙ leads)
+    ∙ ap Ok (ap (λ (ds : List ℕ). premise_where (has_digits ds) (records directory)) back ∙ leads)
 
 pub each_is_found : EachIsFound
 each_is_found directory s =
@@ -63,7 +64,7 @@ each_is_found directory s =
     let entered =
     each_both Long (λ (row : List ℕ). record_kept row ≡ true) Entered (λ row l e. record { long = l; rules = e }) rs (long directory)
     (each_of_all record_kept rs k.kept) in
-    each_both Entered (Leads rs) (λ (row : List ℕ). look_up directory (text_of (used_halves row)) ≡ looked_up Found (premise_of row))
+    each_both Entered (Leads rs) (λ (row : List ℕ). look_up directory (text_of (used_halves row)) ≡ Ok (premise_of row))
     (found_by directory s) rs entered
     (each_leads rs (and_left (distinct same_id rs) (distinct same_premise rs) k.none))
 
@@ -119,20 +120,22 @@ only_one digits (x ∷ xs) k h a =
           given = later.given;
         }
 
+-- a refusal is no P found
+refused : {refusal : Refusal} {premise : ℕ} → Err refusal ≡ Ok premise → ⊥
+refused e = let z : ◌≡◌ {A = ℕ} 0 1 = cc in omega arith
+
 pub found_is_only_one : FoundIsOnlyOne
-found_is_only_one directory text e =
+found_is_only_one directory text premise e =
     go (sound directory) refl (is_id_text text) refl (any_of (has_digits (digits_of text)) (records directory)) refl
   where
     go : (s : Bool) → sound directory ≡ s → (t : Bool) → is_id_text text ≡ t → (a : Bool)
         → any_of (has_digits (digits_of text)) (records directory) ≡ a
-        → OnlyOne (records directory) (digits_of text) (look_up directory text).premise
-    go false s t u a v = absurd (let f = ap (λ r. r.answer) (look_unsound directory text s) in let z : ◌≡◌ {A = ℕ} 0 1 = cc in omega arith)
-    go true s false t a v =
-        absurd (let f = ap (λ r. r.answer) (look_malformed directory text s t) in let z : ◌≡◌ {A = ℕ} 0 1 = cc in omega arith)
-    go true s true t false v =
-        absurd (let f = ap (λ r. r.answer) (look_none directory text s t v) in let z : ◌≡◌ {A = ℕ} 0 1 = cc in omega arith)
+        → OnlyOne (records directory) (digits_of text) premise
+    go false s t u a v = absurd (refused (sym (look_unsound directory text s) ∙ e))
+    go true s false t a v = absurd (refused (sym (look_malformed directory text s t) ∙ e))
+    go true s true t false v = absurd (refused (sym (look_none directory text s t v) ∙ e))
     go true s true t true v =
         let k = sound_of directory s in
         let rs = records directory in
-        rw (ap (λ r. r.premise) (look_found directory text s t v))
-        (only_one (digits_of text) rs k.kept (and_left (distinct same_id rs) (distinct same_premise rs) k.none) v)
+        let same : premise_where (has_digits (digits_of text)) rs ≡ premise = cc (sym (look_found directory text s t v) ∙ e) in
+        rw (sym same) (only_one (digits_of text) rs k.kept (and_left (distinct same_id rs) (distinct same_premise rs) k.none) v)

@@ -1,16 +1,15 @@
 -- Halves judged one by one from a place on: those before the count are to be digits, the others unused. Assumes nothing.
-use Prim.Native.Nat.{ℕ, zero, suc, ◌+◌, ◌*◌, ◌/◌, ◌%◌, ◌<◌, ◌≤◌}
+use Prim.Native.Nat.{ℕ, zero, suc, ◌+◌, ◌*◌, ◌/◌, ◌%◌, ◌≤◌}
 use mathlib.Core.Path.{◌≡◌, refl, sym, ap, ap₂, ◌∙◌}
 use mathlib.Core.List.{List, [], ◌∷◌}
 use mathlib.Core.Bool.{Bool, true, false, ◌&&◌}
 use native.Mathlib.Omega.{arith}
 use lib.Dec.{ltb}
-use lib.ListN.{length, take, drop, get_or, length-drop}
-use lib.Seq.{get_or-drop}
+use lib.ListN.{take, drop}
 use borrow.Author.Tests.{lt-ltb, le-ltb}
+use Rattle.std.specs.List.{list_all, enumerate_from}
 use Rattle.lists.specs.Search.{all_of}
-use Rattle.lists.proofs.Find.{drop_part}
-use Rattle.esi_rules.specs.Directory.{id_width, halves_kept}
+use Rattle.esi_rules.specs.Directory.{halves_kept}
 use Rattle.esi_rules.specs.Packed.{is_digit, is_unused, halves, half_kept, byte_kept}
 
 abbrev pub judged : ℕ → ℕ → List ℕ → Bool
@@ -41,18 +40,6 @@ judged_all count bytes =
     let e : 0 + count ≡ count = omega arith in
     rw e at (judged_from count 0 (halves bytes))
 
--- ---- a byte, half by half
-module _ (count place byte : ℕ) {a : Bool} {first : ℕ} (f : first ≡ byte / 16) (e : a ≡ half_kept (ltb (2 * place) count) first) where
-  judged_first : half_kept (ltb (2 * place) count) (byte / 16) ≡ a
-  judged_first = sym (e ∙ ap (half_kept (ltb (2 * place) count)) f)
-
-  pub byte_miss : a ≡ false → byte_kept count place byte ≡ false
-  byte_miss q = rw (judged_first ∙ q)
-
-  pub byte_rest : a ≡ true → {b : Bool} {second : ℕ} → second ≡ byte % 16 → b ≡ half_kept (ltb (2 * place + 1) count) second
-      → byte_kept count place byte ≡ b
-  byte_rest q g h = rw (judged_first ∙ q) (sym (h ∙ ap (half_kept (ltb (2 * place + 1) count)) g))
-
 -- ---- a byte at a time: what is left is a byte and a rest
 module _ (count i : ℕ) {byte : ℕ} {left rest : List ℕ} (e : left ≡ byte ∷ rest) where
   turn : judged count (2 * i) (halves left) ≡ (byte_kept count i byte && judged count (2 * (i + 1)) (halves rest))
@@ -69,18 +56,9 @@ module _ (count i : ℕ) {byte : ℕ} {left rest : List ℕ} (e : left ≡ byte 
       regroup true b c = refl
       regroup false b c = refl
 
-  pub judged_miss : byte_kept count i byte ≡ false → judged count (2 * i) (halves left) ≡ false
-  judged_miss q = rw (turn, q)
-
-  pub judged_next : byte_kept count i byte ≡ true → judged count (2 * i) (halves left) ≡ judged count (2 * (i + 1)) (halves rest)
-  judged_next q = rw (turn, q)
-
-pub judged_end : (count from : ℕ) {left : List ℕ} → left ≡ [] → judged count from (halves left) ≡ true
-judged_end count from e = rw e
-
--- the bytes of an ESI ID from one of them on
-pub id_next : (bytes : List ℕ) (at i : ℕ) → at + id_width ≤ length bytes → i < id_width
-    → drop i (take id_width (drop at bytes)) ≡ get_or bytes (at + i) 0 ∷ drop (i + 1) (take id_width (drop at bytes))
-id_next bytes at i h k =
-    drop_part 0 (drop at bytes) id_width i (omega (arith, length-drop at bytes)) k
-    ∙ ap (λ (b : ℕ). b ∷ drop (i + 1) (take id_width (drop at bytes))) (get_or-drop at bytes i 0)
+-- all bytes with their places, as std's chain has them
+pub judged_chain : (count i : ℕ) (bytes : List ℕ)
+    → list_all (λ (p : ℕ × ℕ). byte_kept count p.0 p.1) (enumerate_from i bytes) ≡ judged count (2 * i) (halves bytes)
+judged_chain count i [] = refl
+judged_chain count i (byte ∷ bytes) =
+    ap (λ (b : Bool). byte_kept count i byte && b) (judged_chain count (i + 1) bytes) ∙ sym (turn count i {left = byte ∷ bytes} refl)

@@ -1,18 +1,15 @@
 -- A record's rules and a directory's, test by test. Assumes nothing.
-use Prim.Native.Nat.{ℕ, ◌+◌, ◌%◌, ◌≤◌}
-use mathlib.Core.Path.{◌≡◌, ◌∙◌}
+use Prim.Native.Nat.{ℕ, ◌%◌}
+use mathlib.Core.Path.{◌≡◌}
 use mathlib.Core.List.{List}
 use mathlib.Core.Bool.{true, false, and-false}
-use native.Mathlib.Omega.{arith}
 use lib.Dec.{eqb}
-use lib.ListN.{length, take, drop, get_or, length-drop}
-use lib.Seq.{length-take-le, take-take, get_or-take, get_or-drop}
+use lib.ListN.{length, take}
 use borrow.Author.Tests.{eq-eqb, ne_eqb}
 use Rattle.lists.specs.Search.{all_of}
 use Rattle.records.specs.Layout.{record_length, field_of}
 use Rattle.esi_rules.specs.Directory.{id_width, zero_field, records, digit_count, premise_of, is_count, halves_kept, record_kept, none_twice}
 use Rattle.esi_rules.specs.Directory.{sound}
-use Rattle.esi_rules.proofs.KeyLaws.{count_byte}
 
 -- ---- a record's
 module _ (row : List ℕ) where
@@ -32,17 +29,6 @@ module _ (row : List ℕ) where
       → record_kept row ≡ eqb (field_of zero_field row) 0
   unfolding record_kept
   record_rest c h p = simp (c, h, ne_eqb (premise_of row) 0 p)
-
--- the record from a place on: its count, and the bytes of its ESI ID
-module _ (bytes : List ℕ) (at : ℕ) (h : at + record_length ≤ length bytes) where
-  pub count_at : digit_count (take record_length (drop at bytes)) ≡ get_or bytes (at + 11) 0
-  count_at =
-      count_byte (take record_length (drop at bytes)) (length-take-le record_length (drop at bytes) (omega (arith, length-drop at bytes)))
-      ∙ get_or-take record_length (drop at bytes) 11 0 (omega arith)
-      ∙ get_or-drop at bytes 11 0
-
-  pub id_at : take id_width (take record_length (drop at bytes)) ≡ take id_width (drop at bytes)
-  id_at = take-take id_width record_length (drop at bytes) (omega arith)
 
 -- ---- a directory's
 module _ (directory : List ℕ) where

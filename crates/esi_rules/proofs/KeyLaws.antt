@@ -8,20 +8,19 @@ use native.Mathlib.Omega.{arith}
 use lib.Dec.{eqb}
 use lib.ListN.{length, take, drop, get_or, length-append, length-take, length-drop, take-append-drop}
 use lib.Seq.{length-take-le, take_all, take-suc, take_at, drop_at, drop-cons, drop-drop}
-use borrow.Author.Tests.{leb-true, eqb-true, eq-eqb, ne_eqb}
-use Rattle.lists.specs.Search.{any_of, all_of, Each}
+use borrow.Author.Tests.{leb-true, eqb-true, eq-eqb}
+use Rattle.lists.specs.Search.{all_of, Each}
 use Rattle.lists.proofs.TestLaws.{and_left, and_right}
 use Rattle.lists.proofs.SearchLaws.{each_of_all, each_map}
-use Rattle.records.specs.Layout.{Bytes, record_length, number, field_of}
+use Rattle.records.specs.Layout.{Bytes, number, field_of}
 use Rattle.records.proofs.Decode.{field_of_first}
 use Rattle.records.proofs.Fields.{bytes_drop, bytes_take, number_decides}
-use Rattle.esi_rules.specs.declared.Key.{Key}
 use Rattle.esi_rules.specs.Packed.{last_digit, is_digit, Digits, is_unused, halves, packed}
 use Rattle.esi_rules.specs.Distinct.{distinct}
 use Rattle.esi_rules.specs.Directory.{id_width, zero_field, records, digit_count, premise_of, used_halves, long_count, is_count, halves_kept}
 use Rattle.esi_rules.specs.Directory.{record_kept, same_digits, same_id, same_premise, none_twice}
 use Rattle.esi_rules.specs.LookUp.{has_digits}
-use Rattle.esi_rules.specs.Keys.{key_width, first_width, last_width, key_of, key_bytes, same_key, has_key, has_either, clashes}
+use Rattle.esi_rules.specs.Keys.{key_width, first_width, last_width, key_of, key_bytes, same_key, has_key, clashes}
 use Rattle.esi_rules.proofs.Packing.{packed_decides, packs_back, length-packed, packed_bytes}
 use Rattle.esi_rules.proofs.Rows.{Long, Shaped, shaped, each_both}
 use Rattle.esi_rules.proofs.Distinctness.{distinct_either, distinct_agree}
@@ -91,30 +90,6 @@ key_of_first n row h =
       first = field_of_first (record { start = 0; width = 8 }) n row (omega arith) i;
       last = field_of_first (record { start = 8; width = 4 }) n row (omega arith) i;
     }
-
--- the record from a place on has the key from there
-pub has_key_at : (bytes : List ℕ) (at : ℕ) (key : Key) {other : Key} → other ≡ key_of (drop at bytes)
-    → same_key other key ≡ has_key key (take record_length (drop at bytes))
-has_key_at bytes at key e = ap (λ (k : Key). same_key k key) (e ∙ sym (key_of_first record_length (drop at bytes) (omega arith)))
-
--- whether another clashes with the record from a place on, by a search for the key and the P that were read there
-pub any_clash : (bytes : List ℕ) (at : ℕ) (rs : List (List ℕ)) {key : Key} {premise : ℕ} {found : Bool}
-    → key ≡ key_of (drop at bytes) → premise ≡ premise_of (take record_length (drop at bytes)) → found ≡ any_of (has_either key premise) rs
-    → any_of (clashes (take record_length (drop at bytes))) rs ≡ found
-any_clash bytes at rs e f g =
-    let same = e ∙ sym (key_of_first record_length (drop at bytes) (omega arith)) in
-    sym (g ∙ ap₂ (λ (k : Key) (p : ℕ). any_of (has_either k p) rs) same f)
-
--- to have a key or a P
-module _ (key : Key) (premise : ℕ) (row : List ℕ) where
-  pub either_key : has_key key row ≡ true → has_either key premise row ≡ true
-  either_key h = rw h
-
-  pub either_premise : has_key key row ≡ false → premise_of row ≡ premise → has_either key premise row ≡ true
-  either_premise h e = rw (h, eq-eqb (premise_of row) premise e)
-
-  pub either_none : has_key key row ≡ false → (premise_of row ≡ premise → ⊥) → has_either key premise row ≡ false
-  either_none h n = rw (h, ne_eqb (premise_of row) premise n)
 
 -- ---- the key of digits
 -- what an ESI ID's digits are

@@ -1,34 +1,21 @@
--- The records of a directory from a place on, and what every record of bytes is. Assumes nothing.
-use Prim.Native.Nat.{ℕ, zero, suc, ◌+◌, ◌-◌, ◌*◌, ◌/◌, ◌<◌, ◌≤◌}
-use mathlib.Core.Path.{◌≡◌, ap, ◌∙◌}
+-- The records of a directory as std cuts them, and what every record of bytes is. Assumes nothing.
+use Prim.Native.Nat.{ℕ, zero, suc, ◌*◌, ◌/◌, ◌≤◌}
+use mathlib.Core.Path.{◌≡◌, refl, ap}
 use mathlib.Core.List.{List, [], ◌∷◌}
 use native.Mathlib.Omega.{arith}
 use lib.ListN.{length, take, drop, length-drop}
-use lib.Seq.{drop-drop, length-take-le}
+use lib.Seq.{length-take-le}
+use Rattle.std.specs.Simd.{first_chunks}
 use Rattle.lists.specs.Search.{Each}
 use Rattle.records.specs.Layout.{Bytes, record_length}
 use Rattle.records.specs.Notices.{rows}
 use Rattle.records.proofs.Fields.{bytes_drop, bytes_take}
 use Rattle.esi_rules.specs.Directory.{records}
 
--- ---- from a place on
-pub records_first : (bytes : List ℕ) → record_length ≤ length bytes
-    → records bytes ≡ take record_length bytes ∷ records (drop record_length bytes)
-records_first bytes h =
-    let e : length bytes / record_length ≡ suc (length (drop record_length bytes) / record_length) =
-    omega (arith, length-drop record_length bytes) in
-    ap (λ (n : ℕ). rows n bytes) e
-
-pub records_at : (bytes : List ℕ) (at : ℕ) → at + record_length ≤ length bytes
-    → records (drop at bytes) ≡ take record_length (drop at bytes) ∷ records (drop (at + record_length) bytes)
-records_at bytes at h =
-    records_first (drop at bytes) (omega (arith, length-drop at bytes))
-    ∙ ap (λ (l : List ℕ). take record_length (drop at bytes) ∷ records l) (drop-drop record_length at bytes)
-
-pub records_none : (bytes : List ℕ) (at : ℕ) → length bytes - at < record_length → records (drop at bytes) ≡ []
-records_none bytes at h =
-    let e : length (drop at bytes) / record_length ≡ 0 = omega (arith, length-drop at bytes) in
-    ap (λ (n : ℕ). rows n (drop at bytes)) e
+-- std cuts a directory into the same records
+pub chunked : (n : ℕ) (bytes : List ℕ) → first_chunks record_length n bytes ≡ rows n bytes
+chunked zero bytes = refl
+chunked (suc n) bytes = ap (λ (rs : List (List ℕ)). take record_length bytes ∷ rs) (chunked n (drop record_length bytes))
 
 -- ---- every record
 -- two facts of each element, as one

@@ -1,18 +1,26 @@
 -- Document 02, change 8: looking up a text in a directory, and the rows 20, 21 and 22.
-use Rattle.std.specs.Prelude.{ℕ, ◌+◌, ◌-◌, List, [], ◌∷◌, map, Bool, cond, not, ◌&&◌, leb, length}
+use Rattle.std.specs.Prelude.{ℕ, ◌+◌, ◌-◌, List, [], ◌∷◌, map, Bool, cond, not, ◌&&◌, leb, length, Result, Ok, Err}
 use Rattle.lists.specs.Search.{any_of, all_of}
-use Rattle.esi_rules.specs.declared.Answer.{Answer}
-use Rattle.esi_rules.specs.declared.Answer.TheVariants.{Found, DirectoryUnsound, TextMalformed, NoRecord}
-use Rattle.esi_rules.specs.declared.LookedUp.{LookedUp}
+use Rattle.esi_rules.specs.declared.Refusal.{Refusal}
+use Rattle.esi_rules.specs.declared.Refusal.TheVariants.{DirectoryUnsound, TextMalformed, NoRecord}
 use Rattle.esi_rules.specs.Packed.{last_digit}
 use Rattle.esi_rules.specs.Directory.{records, premise_of, used_halves, is_count, same_digits, sound}
 
+-- What a look-up gives back: the P found, or why there is none.
+abbrev pub Answer : Type 0
+Answer = Result ℕ Refusal
+
 -- The number returned, for every answer.
 unfoldable pub number : Answer → ℕ
-number Found = 0
-number DirectoryUnsound = 20
-number TextMalformed = 21
-number NoRecord = 22
+number (Ok premise) = 0
+number (Err DirectoryUnsound) = 20
+number (Err TextMalformed) = 21
+number (Err NoRecord) = 22
+
+-- The P given back: with each of the three numbers "the P given back is 0".
+abbrev pub given_back : Answer → ℕ
+given_back (Ok premise) = premise
+given_back (Err refusal) = 0
 
 -- ASCII's digits are 48 to 57
 abbrev pub ascii_zero : ℕ
@@ -36,18 +44,18 @@ text_of digits = map (λ (digit : ℕ). ascii_zero + digit) digits
 abbrev pub has_digits : List ℕ → List ℕ → Bool
 has_digits digits row = same_digits (used_halves row) digits
 
--- a row: what is returned, and when
+-- a row: why nothing is found, and when
 pub record Row : Type 0 where
-  pub answer : Answer
+  pub refusal : Refusal
   pub when : Bool
 
-abbrev pub row : Answer → Bool → Row
-row answer when = record { answer = answer; when = when }
+abbrev pub row : Refusal → Bool → Row
+row refusal when = record { refusal = refusal; when = when }
 
--- the first row whose condition holds; found if none does
-abbrev pub first_row : List Row → Answer
-first_row [] = Found
-first_row (r ∷ rs) = cond r.when r.answer (first_row rs)
+-- the first row whose condition holds; a P is found if none does
+abbrev pub first_row : List Row → ℕ → Answer
+first_row [] premise = Ok premise
+first_row (r ∷ rs) premise = cond r.when (Err r.refusal) (first_row rs premise)
 
 -- 20 "checked first"; 21; 22 "when the directory is sound, the text is well formed and no record has it".
 abbrev pub rows_of : List ℕ → List ℕ → List Row
@@ -62,16 +70,7 @@ abbrev pub premise_where : (List ℕ → Bool) → List (List ℕ) → ℕ
 premise_where p [] = 0
 premise_where p (r ∷ rs) = cond (p r) (premise_of r) (premise_where p rs)
 
--- "gives its P"; with each of the three numbers "the P given back is 0"
-abbrev pub premise_given : Answer → List ℕ → List ℕ → ℕ
-premise_given Found directory text = premise_where (has_digits (digits_of text)) (records directory)
-premise_given DirectoryUnsound directory text = 0
-premise_given TextMalformed directory text = 0
-premise_given NoRecord directory text = 0
-
-abbrev pub looked_up : Answer → ℕ → LookedUp
-looked_up answer premise = record { answer = answer; premise = premise }
-
--- What a look-up gives back.
-unfoldable pub look_up : List ℕ → List ℕ → LookedUp
-look_up directory text = looked_up (first_row (rows_of directory text)) (premise_given (first_row (rows_of directory text)) directory text)
+-- What a look-up gives back: a row of the three, or "gives its P", that of the record which has the text.
+unfoldable pub look_up : List ℕ → List ℕ → Answer
+look_up directory text =
+    first_row (rows_of directory text) (premise_where (has_digits (digits_of text)) (records directory))

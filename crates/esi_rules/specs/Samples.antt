@@ -2,7 +2,7 @@
 -- lays them out, so that the layout is tried too.
 use Rattle.std.specs.Prelude.{ℕ, List, [], ◌∷◌, ◌++◌, Bool, ◌&&◌, eqb, take}
 use Rattle.lists.specs.Search.{all_of}
-use Rattle.esi_rules.specs.LookUp.{number, text_of, look_up}
+use Rattle.esi_rules.specs.LookUp.{number, given_back, text_of, look_up}
 
 -- ---- texts: of 17 digits; of 22 that begin with them; of 17 others
 abbrev pub short_digits : List ℕ
@@ -24,9 +24,8 @@ too_short = take 16 short
 abbrev pub colon : List ℕ
 colon = too_short ++ (58 ∷ [])
 
--- ---- records: the first eight bytes of an ESI ID, which all of them share; the other three, the count and P's low byte; the rest of P and
--- the
--- four zeros
+-- ---- records: the first eight bytes of an ESI ID, which all of them share; the other three, the count and P's low byte; the rest of P
+-- and the four zeros
 abbrev pub shared : List ℕ
 shared = 0x10 ∷ 0x44 ∷ 0x37 ∷ 0x20 ∷ 0x09 ∷ 0x12 ∷ 0x34 ∷ 0x56 ∷ []
 
@@ -93,7 +92,7 @@ cases =
 abbrev pub holds : Case → Bool
 holds c =
     let came = look_up c.directory c.text in
-    eqb (number came.answer) c.answer && eqb came.premise c.premise
+    eqb (number came) c.answer && eqb (given_back came) c.premise
 
 abbrev pub all_hold : Bool
 all_hold = all_of holds cases

@@ -1,10 +1,9 @@
 -- Document 02, change 8, as theorems; proofs/Packing.antt, proofs/TextLaws.antt and proofs/Finding.antt prove them.
-use Rattle.std.specs.Prelude.{ℕ, ◌≤◌, ◌≡◌, List, ◌∷◌, ◌++◌, true, false, length, take}
+use Rattle.std.specs.Prelude.{ℕ, ◌≤◌, ◌≡◌, List, ◌∷◌, ◌++◌, true, false, length, take, Ok}
 use Rattle.lists.specs.Search.{any_of, all_of, Each}
-use Rattle.esi_rules.specs.declared.Answer.TheVariants.{Found}
 use Rattle.esi_rules.specs.Packed.{Digits, halves, packed}
 use Rattle.esi_rules.specs.Directory.{id_width, records, premise_of, used_halves, sound}
-use Rattle.esi_rules.specs.LookUp.{is_ascii_digit, digits_of, text_of, has_digits, looked_up, look_up}
+use Rattle.esi_rules.specs.LookUp.{is_ascii_digit, digits_of, text_of, has_digits, look_up}
 
 -- ---- packing, "shown once over the digit count"
 -- Unpacking what was packed gives the digits, whatever their number and in however many bytes.
@@ -33,7 +32,7 @@ TextsDecide =
 abbrev pub EachIsFound : Type 0
 EachIsFound =
     (directory : List ℕ) → sound directory ≡ true
-    → Each (λ (row : List ℕ). look_up directory (text_of (used_halves row)) ≡ looked_up Found (premise_of row)) (records directory)
+    → Each (λ (row : List ℕ). look_up directory (text_of (used_halves row)) ≡ Ok (premise_of row)) (records directory)
 
 -- exactly one of some records has these digits, and a number is its P
 pub record OnlyOne (rs : List (List ℕ)) (digits : List ℕ) (premise : ℕ) : Type 0 where
@@ -50,5 +49,5 @@ pub record OnlyOne (rs : List (List ℕ)) (digits : List ℕ) (premise : ℕ) : 
 -- An answer 0 means that exactly one record has the text, and P is its.
 abbrev pub FoundIsOnlyOne : Type 0
 FoundIsOnlyOne =
-    (directory text : List ℕ) → (look_up directory text).answer ≡ Found
-    → OnlyOne (records directory) (digits_of text) (look_up directory text).premise
+    (directory text : List ℕ) (premise : ℕ) → look_up directory text ≡ Ok premise
+    → OnlyOne (records directory) (digits_of text) premise

@@ -2,14 +2,9 @@
 use Prim.Native.Nat.{ℕ, zero, suc, ◌+◌, ◌≤◌, ◌<◌}
 use mathlib.Core.Path.{◌≡◌, refl, sym, ap, ap₂, ◌∙◌}
 use mathlib.Core.List.{List, [], ◌∷◌, ◌++◌, map, map-append, reverse, reverse_aux}
-use mathlib.Core.Bool.{true}
 use native.Mathlib.Omega.{arith}
-use lib.Dec.{ltb}
 use lib.ListN.{length, take, drop, get_or}
 use lib.Seq.{drop-cons}
-use borrow.Author.Tests.{ltb-true}
-use Rattle.lists.specs.Search.{all_of}
-use Rattle.lists.proofs.SearchLaws.{each_of_all, each_at}
 use Rattle.first_fittings_rules.specs.Layout.{old_length, widths, turned, turned_record}
 
 module _ (f : ℕ → ℕ) where
@@ -63,9 +58,6 @@ places_turned = refl
 pub places_inverse : map (λ (i : ℕ). get_or places i 0) places ≡ count 0 old_length
 places_inverse = refl
 
-places_inside : all_of (λ (i : ℕ). ltb i old_length) places ≡ true
-places_inside = refl
-
 turned_mapped : (bytes : List ℕ) → old_length ≤ length bytes → turned_record bytes ≡ map (λ (p : ℕ). get_or bytes p 0) places
 unfolding turned_record
 turned_mapped bytes k =
@@ -74,10 +66,5 @@ turned_mapped bytes k =
     ∙ ap (map (λ (p : ℕ). get_or bytes p 0)) places_turned
 
 module _ (i : ℕ) (h : i < old_length) where
-  pub place_below : get_or places i 0 < old_length
-  place_below =
-      ltb-true _ _
-      (each_at (λ (p : ℕ). ltb p old_length ≡ true) places i 0 h (each_of_all (λ (p : ℕ). ltb p old_length) places places_inside))
-
   pub turned_at : (bytes : List ℕ) → old_length ≤ length bytes → get_or (turned_record bytes) i 0 ≡ get_or bytes (get_or places i 0) 0
   turned_at bytes k = ap (λ (l : List ℕ). get_or l i 0) (turned_mapped bytes k) ∙ get_d_mapped (λ (p : ℕ). get_or bytes p 0) places i 0 0 h

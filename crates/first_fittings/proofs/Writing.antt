@@ -2,7 +2,7 @@
 use Prim.Native.Nat.{ℕ, ◌+◌, ◌*◌, ◌-◌, ◌/◌, ◌≤◌, ◌<◌}
 use mathlib.Core.Path.{◌≡◌, refl, sym, ap, ap₂, ◌∙◌}
 use mathlib.Core.List.{List, [], ◌++◌, map, append-nil, append_assoc}
-use native.Mathlib.Nat.{mul-zero, mul-suc, mul-le-mul_left, mul-div-le}
+use native.Mathlib.Nat.{mul-zero, mul-suc, mul-le-mul_left, mul-div-le, mul_comm, le-div_iff_mul-le}
 use native.Mathlib.Numerals.{add-one}
 use native.Mathlib.Omega.{arith}
 use lib.ListN.{length, take, drop, length-append, length-drop, drop_of_length-le}
@@ -60,29 +60,36 @@ module _ (way : Way) (into : ℕ) (long : Into way into) (tape before : List ℕ
         sym (map_more way.becomes (cut way.size i tape) (take way.size (drop (way.size * i) tape)))
         ∙ ap (λ (rs : List (List ℕ)). joined (map way.becomes rs)) (sym (cut_more way.size i tape))
 
+    -- there is room for the next
+    pub room_left : (at : ℕ) → at ≡ into * i → i < length tape / way.size → into ≤ length (lent now at)
+    room_left at p h =
+        let fits : into * (i + 1) ≤ length before =
+        omega (arith, mul-le-mul_left {m = i + 1} {n = length tape / way.size} into (omega arith)) in
+        let turned : into * i + into ≡ into * (i + 1) = omega (arith, mul-suc into i, ap (λ (k : ℕ). into * k) (add-one i)) in
+        omega (arith, ap length (lent_all now at), length-drop at now, w.long, p)
+
     -- what the next record becomes stands behind what is done, and the rest stays
-    pub writing_more : (after : List ℕ) → i < length tape / way.size
-        → after ≡ way.becomes (take (way.size * i + way.size - way.size * i) (drop (way.size * i) tape))
-        ++ drop into (lent now (into * i))
-        → Writing way into tape before (handed now (into * i) after) (i + 1)
-    writing_more after h e =
-        let same : way.size * i + way.size - way.size * i ≡ way.size = omega arith in
-        let bytes = way.becomes (take way.size (drop (way.size * i) tape)) in
+    pub writing_more : (at next : ℕ) (bytes after : List ℕ) → at ≡ into * i → next ≡ i + 1 → i < length tape / way.size
+        → bytes ≡ take way.size (drop (way.size * i) tape)
+        → after ≡ way.becomes bytes ++ drop into (lent now at)
+        → Writing way into tape before (handed now at after) next
+    writing_more at next bytes after p q h is e =
+        let made = way.becomes (take way.size (drop (way.size * i) tape)) in
         let left = drop (into * (i + 1)) before in
-        let next : into * i + into ≡ into * (i + 1) = omega (arith, mul-suc into i, ap (λ (k : ℕ). into * k) (add-one i)) in
-        let behind : after ≡ bytes ++ left =
+        let turned : into * i + into ≡ into * (i + 1) = omega (arith, mul-suc into i, ap (λ (k : ℕ). into * k) (add-one i)) in
+        let behind : after ≡ made ++ left =
         e
-        ∙ ap₂ (λ (k : ℕ) (l : List ℕ). way.becomes (take k (drop (way.size * i) tape)) ++ drop into l) same
-        (lent_all now (into * i) ∙ rest)
-        ∙ ap (λ (l : List ℕ). bytes ++ l) (drop-drop into (into * i) before ∙ ap (λ (k : ℕ). drop k before) next) in
-        let all : handed now (into * i) after ≡ part way tape (i + 1) ++ left =
-        handed_all now (into * i) after
-        ∙ ap₂ (λ (a b : List ℕ). a ++ b) front behind
-        ∙ sym (append_assoc (part way tape i) bytes left)
+        ∙ ap₂ (λ (b l : List ℕ). way.becomes b ++ drop into l) is
+        (lent_all now at ∙ ap (λ (k : ℕ). drop k now) p ∙ rest)
+        ∙ ap (λ (l : List ℕ). made ++ l) (drop-drop into (into * i) before ∙ ap (λ (k : ℕ). drop k before) turned) in
+        let all : handed now at after ≡ part way tape (i + 1) ++ left =
+        handed_all now at after
+        ∙ ap₂ (λ (a b : List ℕ). a ++ b) (ap (λ (k : ℕ). take k now) p ∙ front) behind
+        ∙ sym (append_assoc (part way tape i) made left)
         ∙ ap (λ (l : List ℕ). l ++ left) more in
         let fits : into * (i + 1) ≤ length before =
         omega (arith, mul-le-mul_left {m = i + 1} {n = length tape / way.size} into (omega arith)) in
-        record {
+        rw q record {
           within = omega arith;
           long =
               ap length all
@@ -91,8 +98,12 @@ module _ (way : Way) (into : ℕ) (long : Into way into) (tape before : List ℕ
           so_far = all;
         }
 
-    pub writing_end : (count : ℕ) → count ≡ length tape / way.size → count ≤ i → now ≡ converted way tape ++ drop (into * count) before
+    pub writing_end : (count : ℕ) → i ≡ length tape / way.size → count ≡ length tape / way.size
+        → now ≡ converted way tape ++ drop (into * count) before
     unfolding converted
-    writing_end count e h =
-        let last : i ≡ count = omega (arith, w.within) in
-        w.so_far ∙ ap₂ (λ (a b : ℕ). part way tape a ++ drop (into * b) before) (last ∙ e) last
+    writing_end count last e =
+        w.so_far ∙ ap₂ (λ (a b : ℕ). part way tape a ++ drop (into * b) before) last (last ∙ sym e)
+
+-- room for so many records
+pub room_for : (into n room : ℕ) → 0 < into → n ≤ room / into → into * n ≤ room
+room_for into n room some h = omega (arith, (le-div_iff_mul-le {k = into} {x = n} {y = room} some).0 h, mul_comm n into)

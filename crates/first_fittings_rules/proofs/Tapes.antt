@@ -1,5 +1,5 @@
 -- Tapes as records: cut into records of a size and joined again. Assumes nothing.
-use Prim.Native.Nat.{ℕ, zero, suc, ◌+◌, ◌*◌, ◌-◌, ◌≤◌, ◌<◌}
+use Prim.Native.Nat.{ℕ, zero, suc, ◌+◌, ◌*◌, ◌≤◌}
 use mathlib.Core.Path.{◌≡◌, refl, sym, ap, ap₂, ◌∙◌}
 use mathlib.Core.List.{List, [], ◌∷◌, ◌++◌, map, append-nil, append_assoc}
 use native.Mathlib.Nat.{mul-zero, mul-suc}
@@ -7,6 +7,7 @@ use native.Mathlib.Numerals.{add-one}
 use native.Mathlib.Omega.{arith}
 use lib.ListN.{length, take, drop, length-append, length-drop, take-append-drop}
 use lib.Seq.{length-take-le, drop-drop, take_at, drop_at}
+use Rattle.std.specs.Simd.{first_chunks}
 use Rattle.lists.specs.Search.{Each}
 use Rattle.first_fittings_rules.specs.Layout.{cut, joined}
 
@@ -69,27 +70,7 @@ module _ (size : ℕ) where
       (take_at r (joined rs) size h.0)
       (ap (cut size (length rs)) (drop_at r (joined rs) size h.0) ∙ cut_joined rs h.1)
 
--- of so many records those from the i-th on: the i-th, as a loop reads it, and the others
-abbrev pub left : ℕ → ℕ → ℕ → List ℕ → List (List ℕ)
-left size n i tape = cut size (n - i) (drop (size * i) tape)
-
-module _ (size n : ℕ) (tape : List ℕ) where
-  pub left_all : left size n 0 tape ≡ cut size n tape
-  left_all =
-      let e : n - 0 ≡ n = omega arith in
-      ap₂ (λ (k at : ℕ). cut size k (drop at tape)) e (mul-zero size)
-
-  pub left_first : (i : ℕ) → i < n
-      → left size n i tape ≡ take (size * i + size - size * i) (drop (size * i) tape) ∷ left size n (i + 1) tape
-  left_first i h =
-      let one : n - i ≡ suc (n - (i + 1)) = omega arith in
-      let same : size ≡ size * i + size - size * i = omega arith in
-      let next : size * i + size ≡ size * (i + 1) = omega (arith, mul-suc size i, ap (λ (k : ℕ). size * k) (add-one i)) in
-      ap (λ (k : ℕ). cut size k (drop (size * i) tape)) one
-      ∙ ap₂ (λ (a : ℕ) (b : List ℕ). take a (drop (size * i) tape) ∷ cut size (n - (i + 1)) b) same
-      (drop-drop size (size * i) tape ∙ ap (λ (k : ℕ). drop k tape) next)
-
-  pub left_none : (i : ℕ) → n ≤ i → left size n i tape ≡ []
-  left_none i h =
-      let e : n - i ≡ 0 = omega arith in
-      ap (λ (k : ℕ). cut size k (drop (size * i) tape)) e
+  -- std cuts a slice into the same records
+  pub cut_chunks : (n : ℕ) (tape : List ℕ) → first_chunks size n tape ≡ cut size n tape
+  cut_chunks zero tape = refl
+  cut_chunks (suc n) tape = ap (λ (rs : List (List ℕ)). take size tape ∷ rs) (cut_chunks n (drop size tape))

@@ -11,40 +11,31 @@ use lib.Seq.{take_at}
 use borrow.Author.Tests.{eqb-true, not-false, eq-eqb, le-ltb}
 use Rattle.lists.specs.Search.{any_of}
 use Rattle.lists.proofs.TestLaws.{or_left, or_right}
-use Rattle.first_fittings_rules.specs.declared.Answer.{Answer}
-use Rattle.first_fittings_rules.specs.declared.Answer.TheVariants.{Converted, NotWhole, ShortBuffer, LastBytesUsed}
 use Rattle.first_fittings_rules.specs.Layout.{cut, records_of, joined}
-use Rattle.first_fittings_rules.specs.Answers.{number}
-use Rattle.first_fittings_rules.specs.Conversions.{Way, converted, answer, given}
+use Rattle.first_fittings_rules.specs.Answers.{number, written}
+use Rattle.first_fittings_rules.specs.Conversions.{Way, converted, rows, answer, given}
 use Rattle.first_fittings_rules.specs.ThereAndBack.{Made, Call, Accepted, wrote, GivesBack, WantsRoomOnly, ThereAndBack, KeepsApart}
 use Rattle.first_fittings_rules.proofs.Tapes.{Sized, cut_sized, cut-length, joined_cut, cut_joined}
 use Rattle.first_fittings_rules.proofs.Ways.{Into, becomes_sized, converted-length}
 use Rattle.first_fittings_rules.proofs.Answered.{is_part, is_short, is_used, by_tests, answer_by_lem, given_by}
 
 -- ---- a call that was not refused
-only_converted : (a : Answer) → number a ≡ 0 → a ≡ Converted
-unfolding number
-only_converted Converted e = refl
-only_converted NotWhole e = absurd (omega (arith, e))
-only_converted ShortBuffer e = absurd (omega (arith, e))
-only_converted LastBytesUsed e = absurd (omega (arith, e))
-
 record NoRow (part short used : Bool) : Type 0 where
   is_whole : part ≡ false
   has_room : short ≡ false
   is_clean : used ≡ false
 
-no_row : (part short used : Bool) → number (by_tests part short used) ≡ 0 → NoRow part short used
+no_row : (part short used : Bool) (count : ℕ) → number (by_tests part short used count) ≡ 0 → NoRow part short used
 unfolding number
-no_row true short used e = absurd (omega (arith, e))
-no_row false true used e = absurd (omega (arith, e))
-no_row false false true e = absurd (omega (arith, e))
-no_row false false false e = record { is_whole = refl; has_room = refl; is_clean = refl }
+no_row true short used count e = absurd (omega (arith, e))
+no_row false true used count e = absurd (omega (arith, e))
+no_row false false true count e = absurd (omega (arith, e))
+no_row false false false count e = record { is_whole = refl; has_room = refl; is_clean = refl }
 
 module _ (way : Way) (tape : List ℕ) (call : Made) (ok : Accepted way tape call) where
   met : NoRow (is_part way tape) (is_short way tape call.lent) (is_used way tape)
   met =
-      no_row (is_part way tape) (is_short way tape call.lent) (is_used way tape)
+      no_row (is_part way tape) (is_short way tape call.lent) (is_used way tape) (length (converted way tape))
       (ap number (sym (answer_by_lem way tape call.lent refl refl refl) ∙ sym ok.promise.answered) ∙ ok.unrefused)
 
   -- its tape is made of whole records
@@ -63,7 +54,7 @@ module _ (way : Way) (tape : List ℕ) (call : Made) (ok : Accepted way tape cal
   unfolding number
   wrote_converted =
       let g : given way tape call.lent ≡ converted way tape =
-      given_by way tape call.lent (sym ok.promise.answered ∙ only_converted call.reply.answer ok.unrefused) in
+      given_by way tape call.lent (answer_by_lem way tape call.lent met.is_whole met.has_room met.is_clean) in
       ap₂ (λ (n : ℕ) (l : List ℕ). take n l)
       (ok.promise.count ∙ ap length g)
       (ok.promise.bytes ∙ ap (λ (l : List ℕ). l ++ drop (length l) call.lent) g)
@@ -120,7 +111,8 @@ module _ (there back : Way) (u : Undoes there back) where
         ∙ joined_cut there.size (length tape / there.size) tape (whole_tape there tape first ok)
 
     -- the way back has one row left that can hold
-    by_room : (lent : List ℕ) → answer back (converted there tape) lent ≡ by_tests false (ltb (length lent) (length tape)) false
+    by_room : (lent : List ℕ)
+        → answer back (converted there tape) lent ≡ by_tests false (ltb (length lent) (length tape)) false (length (converted back (converted there tape)))
     by_room lent =
         let none : length (converted there tape) % back.size ≡ 0 =
         ap (λ (n : ℕ). n % back.size) new_length ∙ mul-mod_right back.size (length tape / there.size) in
@@ -142,22 +134,35 @@ module _ (there back : Way) (u : Undoes there back) where
       (kept.answered
       ∙ ap (λ (l : List ℕ). answer back l second.lent) (wrote_converted there tape first ok)
       ∙ by_room tape first ok second.lent)
-      ∙ numbered (ltb (length second.lent) (length tape))
+      ∙ numbered (ltb (length second.lent) (length tape)) (length (converted back (converted there tape)))
     where
-      numbered : (short : Bool) → number (by_tests false short false) ≡ cond short 24 0
-      numbered true = refl
-      numbered false = refl
+      numbered : (short : Bool) (count : ℕ) → number (by_tests false short false count) ≡ cond short 24 0
+      numbered true count = refl
+      numbered false count = refl
 
   pub there_and_back : ThereAndBack there back
   there_and_back = record { tape = gives_back; room = wants_room_only }
 
 -- ---- no two tapes are converted to the same bytes
+-- the count of an answer is that of the bytes given
+by_count : (part short used : Bool) (bytes : List ℕ)
+    → written (by_tests part short used (length bytes)) ≡ length (cond (eqb (number (by_tests part short used (length bytes))) 0) bytes [])
+unfolding number
+by_count true short used bytes = refl
+by_count false true used bytes = refl
+by_count false false true bytes = refl
+by_count false false false bytes = refl
+
+counted : (way : Way) (tape lent : List ℕ) → written (answer way tape lent) ≡ length (given way tape lent)
+unfolding answer rows given
+counted way tape lent = by_count (is_part way tape) (is_short way tape lent) (is_used way tape) (converted way tape)
+
 -- a call, as the definitions have it
 outcome : Way → List ℕ → List ℕ → Made
 outcome way tape lent =
     record {
       lent = lent;
-      reply = record { answer = answer way tape lent; written = length (given way tape lent) };
+      reply = answer way tape lent;
       after = given way tape lent ++ drop (length (given way tape lent)) lent;
     }
 
@@ -168,9 +173,9 @@ module _ (there back : Way) (t : ThereAndBack there back) where
   unfolding outcome
   back_with_room tape first ok lent room =
       let call : Made = outcome back (wrote first) lent in
-      let kept : Call back (wrote first) call = record { answered = refl; count = refl; bytes = refl } in
+      let kept : Call back (wrote first) call = record { answered = refl; count = counted back (wrote first) lent; bytes = refl } in
       let enough : ltb (length lent) (length tape) ≡ false = le-ltb (length lent) (length tape) room in
-      let zero : number call.reply.answer ≡ 0 = t.room tape first call ok kept ∙ ap (λ (b : Bool). cond b 24 0) enough in
+      let zero : number call.reply ≡ 0 = t.room tape first call ok kept ∙ ap (λ (b : Bool). cond b 24 0) enough in
       t.tape tape first call ok (record { promise = kept; unrefused = zero })
 
   pub keeps_apart : KeepsApart there

@@ -1,11 +1,9 @@
 -- Document 02, change 9: a converter each way, and what a call of it promises.
 use Rattle.std.specs.Prelude.{ℕ, ◌%◌, ◌≡◌, List, [], ◌∷◌, ◌++◌, map, Bool, false, cond, not, eqb, ltb, length, drop, replicate}
 use Rattle.lists.specs.Search.{any_of}
-use Rattle.first_fittings_rules.specs.declared.Conversion.{Conversion}
-use Rattle.first_fittings_rules.specs.declared.Answer.{Answer}
-use Rattle.first_fittings_rules.specs.declared.Answer.TheVariants.{NotWhole, ShortBuffer, LastBytesUsed}
+use Rattle.first_fittings_rules.specs.declared.Refusal.TheVariants.{NotWhole, ShortBuffer, LastBytesUsed}
 use Rattle.first_fittings_rules.specs.Layout.{old_length, our_length, turned_record, records_of, joined}
-use Rattle.first_fittings_rules.specs.Answers.{Row, row, first_row, number}
+use Rattle.first_fittings_rules.specs.Answers.{Answer, Row, row, first_row, number, written}
 
 -- a way to convert: how long the records are that come in, what becomes of one, and whether it keeps the tape from being converted
 pub record Way : Type 0 where
@@ -37,8 +35,9 @@ rows way tape lent =
     ∷ row LastBytesUsed (any_of way.barred (records_of way.size tape))
     ∷ []
 
+-- a refusal by the first row that holds; else the count of the converted tape's bytes
 unfoldable pub answer : Way → List ℕ → List ℕ → Answer
-answer way tape lent = first_row (rows way tape lent)
+answer way tape lent = first_row (rows way tape lent) (length (converted way tape))
 
 -- what is written: the converted tape; nothing where it is refused
 unfoldable pub given : Way → List ℕ → List ℕ → List ℕ
@@ -46,7 +45,7 @@ given way tape lent = cond (eqb (number (answer way tape lent)) 0) (converted wa
 
 -- What a call promises for every tape and every buffer that it is lent: its answer; how many bytes it wrote; and each byte of the buffer on
 -- return, "with zero bytes written and the output buffer untouched; otherwise the bytes past the converted tape stay".
-pub record Promised (way : Way) (tape before : List ℕ) (r : Conversion) (after : List ℕ) : Type 0 where
-  pub answered : r.answer ≡ answer way tape before
-  pub count : r.written ≡ length (given way tape before)
+pub record Promised (way : Way) (tape before : List ℕ) (r : Answer) (after : List ℕ) : Type 0 where
+  pub answered : r ≡ answer way tape before
+  pub count : written r ≡ length (given way tape before)
   pub bytes : after ≡ given way tape before ++ drop (length (given way tape before)) before

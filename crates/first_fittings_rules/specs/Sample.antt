@@ -1,6 +1,5 @@
 -- Change 9, computed: two records of which every field reads differently both ways, there and back, and a case for each answer.
-use Rattle.std.specs.Prelude.{ℕ, ◌≡◌, List, [], ◌∷◌, ◌++◌, Bool, true, false, ◌&&◌, eqb, take, replicate}
-use Rattle.first_fittings_rules.specs.declared.Answer.TheVariants.{Converted}
+use Rattle.std.specs.Prelude.{ℕ, ◌≡◌, List, [], ◌∷◌, ◌++◌, Bool, true, false, ◌&&◌, eqb, take, replicate, Ok}
 use Rattle.first_fittings_rules.specs.Layout.{old_length, widths, high_first, low_first, numbers}
 use Rattle.first_fittings_rules.specs.Answers.{number}
 use Rattle.first_fittings_rules.specs.Conversions.{Way, to24, to20, answer, given}
@@ -24,10 +23,10 @@ buffer many = replicate many 170
 
 -- The calls each way: with two bytes more than are needed, and with just enough.
 abbrev pub to_ours : Made
-to_ours = record { lent = buffer 50; reply = record { answer = Converted; written = 48 }; after = our_tape ++ (170 ∷ 170 ∷ []) }
+to_ours = record { lent = buffer 50; reply = Ok 48; after = our_tape ++ (170 ∷ 170 ∷ []) }
 
 abbrev pub to_old : Made
-to_old = record { lent = buffer 40; reply = record { answer = Converted; written = 40 }; after = old_tape }
+to_old = record { lent = buffer 40; reply = Ok 40; after = old_tape }
 
 -- what is asked of two calls by the theorem
 pub record Shown (way other : Way) (tape : List ℕ) (first second : Made) : Type 0 where

@@ -1,9 +1,8 @@
 -- Document 02, change 9: "Where neither step is refused, converting to 24 and back gives the old tape, and converting to 20 and back gives
 -- ours." Statements about what calls returned, tied together by what the calls promise; proofs/ThereAndBack.antt proves them.
 use Rattle.std.specs.Prelude.{ℕ, ◌≡◌, List, cond, ltb, length, take}
-use Rattle.first_fittings_rules.specs.declared.Conversion.{Conversion}
 use Rattle.first_fittings_rules.specs.Layout.{total, turned, low_first, high_first, numbers}
-use Rattle.first_fittings_rules.specs.Answers.{number}
+use Rattle.first_fittings_rules.specs.Answers.{Answer, number, written}
 use Rattle.first_fittings_rules.specs.Conversions.{Way, to24, to20, Promised}
 
 -- The law below both ways, for any fields: bytes turned field by field and turned again are the bytes.
@@ -19,7 +18,7 @@ SameNumbers =
 -- a call that was made: the buffer that it was lent, what it returned, and the buffer on return
 pub record Made : Type 0 where
   pub lent : List ℕ
-  pub reply : Conversion
+  pub reply : Answer
   pub after : List ℕ
 
 -- it kept its promise
@@ -29,11 +28,11 @@ Call way tape call = Promised way tape call.lent call.reply call.after
 -- it kept its promise and was not refused
 pub record Accepted (way : Way) (tape : List ℕ) (call : Made) : Type 0 where
   pub promise : Call way tape call
-  pub unrefused : number call.reply.answer ≡ 0
+  pub unrefused : number call.reply ≡ 0
 
 -- the bytes that it wrote
 abbrev pub wrote : Made → List ℕ
-wrote call = take call.reply.written call.after
+wrote call = take (written call.reply) call.after
 
 -- One way and back gives the tape: any tape, any two buffers, any two results that were promised.
 abbrev pub GivesBack : Way → Way → Type 0
@@ -49,7 +48,7 @@ WantsRoomOnly there back =
     (tape : List ℕ) (first second : Made)
     → Accepted there tape first
     → Call back (wrote first) second
-    → number second.reply.answer ≡ cond (ltb (length second.lent) (length tape)) 24 0
+    → number second.reply ≡ cond (ltb (length second.lent) (length tape)) 24 0
 
 pub record ThereAndBack (there back : Way) : Type 0 where
   pub tape : GivesBack there back

@@ -3,22 +3,16 @@
 // Only lengths and the last four bytes of our records are judged, so that a tape goes through whatever its records say.
 #![tactic(auto)]
 
-#[derive(Clone, Copy)]
-pub enum Answer {
-    Converted,
+// Why a tape is refused, and the number that says so. A tape that is converted has the count of the bytes written in its place: 0 to say, and
+// `Ok` here.
+#[derive(Debug, Clone, Copy, PartialEq, Eq)]
+pub enum Refusal {
     // the input is no whole number of records
-    NotWhole,
+    NotWhole = 23,
     // the output buffer is shorter than the converted tape
-    ShortBuffer,
+    ShortBuffer = 24,
     // one of our records has a byte in 20 to 23 that is not zero
-    LastBytesUsed,
-}
-
-// What a call gives back: its answer, and how many bytes it wrote.
-#[derive(Clone, Copy)]
-pub struct Conversion {
-    pub answer: Answer,
-    pub written: usize,
+    LastBytesUsed = 25,
 }
 
 // How many bytes a record has, with the first fittings and with us.

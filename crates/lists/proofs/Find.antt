@@ -8,7 +8,7 @@ use native.Mathlib.Numerals.{add-one}
 use native.Mathlib.Omega.{arith}
 use lib.ListN.{length, take, drop, get_or, length-take, drop_of_length-le}
 use lib.Seq.{drop-cons, get_or-take}
-use Rattle.lists.specs.declared.Found.TheVariants.{At, Nothing}
+use Rattle.std.specs.Prelude.{Some, None}
 use Rattle.lists.specs.Search.{any_of, all_of, count_of, place_from, place_of, without_first}
 use Rattle.lists.specs.Shift.{removed}
 
@@ -48,7 +48,7 @@ module _ {X : Type 0} (p : X → Bool) {x : X} {left rest : List X} (e : left �
   pub count_next : count_of p left ≡ cond (p x) 1 0 + count_of p rest
   count_next = rw e
 
-  pub place_hit : (i : ℕ) → p x ≡ true → place_from p i left ≡ At i
+  pub place_hit : (i : ℕ) → p x ≡ true → place_from p i left ≡ Some i
   place_hit i q = rw (e, q)
 
   pub place_next : (i : ℕ) → p x ≡ false → place_from p i left ≡ place_from p (i + 1) rest
@@ -65,12 +65,12 @@ module _ {X : Type 0} (p : X → Bool) {left : List X} (e : left ≡ []) where
   pub count_end : count_of p left ≡ 0
   count_end = rw e
 
-  pub place_end : (i : ℕ) → place_from p i left ≡ Nothing
+  pub place_end : (i : ℕ) → place_from p i left ≡ None
   place_end i = rw e
 
 -- ---- what is found
 -- nothing found is no place found
-apart : {Y : Type 0} {i : ℕ} → Nothing ≡ At i → Y
+apart : {Y : Type 0} {i : ℕ} → None ≡ Some i → Y
 apart e = let z : ◌≡◌ {A = ℕ} 0 1 = cc in absurd (omega arith)
 
 removed_more : {X : Type 0} (x : X) (xs : List X) (i : ℕ) → removed (suc i) (x ∷ xs) ≡ x ∷ removed i xs
@@ -79,23 +79,23 @@ removed_more x xs i = rw (add-one (suc i), add-one i)
 
 -- The place found, where the search counts from j on: inside the list, and what is left out there is the first that passes.
 module _ {X : Type 0} (p : X → Bool) where
-  pub place_below : (j : ℕ) (l : List X) (i : ℕ) → place_from p j l ≡ At i → i < j + length l
+  pub place_below : (j : ℕ) (l : List X) (i : ℕ) → place_from p j l ≡ Some i → i < j + length l
   place_below j [] i e = apart e
   place_below j (x ∷ xs) i e = go (p x) refl (place_below (suc j) xs i)
     where
-      go : (b : Bool) → p x ≡ b → (place_from p (suc j) xs ≡ At i → i < suc j + length xs) → i < j + length (x ∷ xs)
+      go : (b : Bool) → p x ≡ b → (place_from p (suc j) xs ≡ Some i → i < suc j + length xs) → i < j + length (x ∷ xs)
       go true q ih = let z : j ≡ i = cc (rw q at e) in omega (arith, z)
       go false q ih = omega (arith, ih (rw q at e))
 
-  pub place_from_lem : (j : ℕ) (l : List X) (i : ℕ) → place_from p j l ≡ At i → j ≤ i
+  pub place_from_lem : (j : ℕ) (l : List X) (i : ℕ) → place_from p j l ≡ Some i → j ≤ i
   place_from_lem j [] i e = apart e
   place_from_lem j (x ∷ xs) i e = go (p x) refl (place_from_lem (suc j) xs i)
     where
-      go : (b : Bool) → p x ≡ b → (place_from p (suc j) xs ≡ At i → suc j ≤ i) → j ≤ i
+      go : (b : Bool) → p x ≡ b → (place_from p (suc j) xs ≡ Some i → suc j ≤ i) → j ≤ i
       go true q ih = let z : j ≡ i = cc (rw q at e) in omega (arith, z)
       go false q ih = omega (arith, ih (rw q at e))
 
-  without_from : (j : ℕ) (l : List X) (i k : ℕ) → k ≡ j + i → place_from p j l ≡ At k → without_first p l ≡ removed i l
+  without_from : (j : ℕ) (l : List X) (i k : ℕ) → k ≡ j + i → place_from p j l ≡ Some k → without_first p l ≡ removed i l
   unfolding removed
   without_from j [] i k s e = apart e
   without_from j (x ∷ xs) zero k s e = go (p x) refl
@@ -105,13 +105,13 @@ module _ {X : Type 0} (p : X → Bool) where
       go false q = absurd (omega (arith, place_from_lem (suc j) xs k (rw q at e), s))
   without_from j (x ∷ xs) (suc i) k s e = go (p x) refl (without_from (suc j) xs i k (omega (arith, s)))
     where
-      go : (b : Bool) → p x ≡ b → (place_from p (suc j) xs ≡ At k → without_first p xs ≡ removed i xs)
+      go : (b : Bool) → p x ≡ b → (place_from p (suc j) xs ≡ Some k → without_first p xs ≡ removed i xs)
           → without_first p (x ∷ xs) ≡ removed (suc i) (x ∷ xs)
       go true q ih = let z : j ≡ k = cc (rw q at e) in absurd (omega (arith, z, s))
       go false q ih = rw q (ap (λ (l : List X). x ∷ l) (ih (rw q at e)) ∙ sym (removed_more x xs i))
 
   -- the list without the first that passes is the list without what stands at the place found
-  pub without_removed : (l : List X) (i : ℕ) → place_of p l ≡ At i → without_first p l ≡ removed i l
+  pub without_removed : (l : List X) (i : ℕ) → place_of p l ≡ Some i → without_first p l ≡ removed i l
   without_removed l i e = without_from 0 l i i (omega arith) e
 
   pub count_most : (l : List X) → count_of p l ≤ length l
@@ -123,21 +123,21 @@ module _ {X : Type 0} (p : X → Bool) where
       go false q ih = rw q (omega (arith, ih))
 
   -- none fails, so all are counted
-  pub count_all : (j : ℕ) (l : List X) → place_from (λ x. not (p x)) j l ≡ Nothing → count_of p l ≡ length l
+  pub count_all : (j : ℕ) (l : List X) → place_from (λ x. not (p x)) j l ≡ None → count_of p l ≡ length l
   count_all j [] e = refl
   count_all j (x ∷ xs) e = go (p x) refl (count_all (suc j) xs)
     where
-      go : (b : Bool) → p x ≡ b → (place_from (λ x. not (p x)) (suc j) xs ≡ Nothing → count_of p xs ≡ length xs)
+      go : (b : Bool) → p x ≡ b → (place_from (λ x. not (p x)) (suc j) xs ≡ None → count_of p xs ≡ length xs)
           → count_of p (x ∷ xs) ≡ length (x ∷ xs)
       go true q ih = rw q (omega (arith, ih (rw q at e)))
       go false q ih = apart (sym (rw q at e))
 
   -- one fails, so not all are counted
-  pub count_less : (j : ℕ) (l : List X) (i : ℕ) → place_from (λ x. not (p x)) j l ≡ At i → count_of p l < length l
+  pub count_less : (j : ℕ) (l : List X) (i : ℕ) → place_from (λ x. not (p x)) j l ≡ Some i → count_of p l < length l
   count_less j [] i e = apart e
   count_less j (x ∷ xs) i e = go (p x) refl (count_less (suc j) xs i)
     where
-      go : (b : Bool) → p x ≡ b → (place_from (λ x. not (p x)) (suc j) xs ≡ At i → count_of p xs < length xs)
+      go : (b : Bool) → p x ≡ b → (place_from (λ x. not (p x)) (suc j) xs ≡ Some i → count_of p xs < length xs)
           → count_of p (x ∷ xs) < length (x ∷ xs)
       go true q ih = rw q (omega (arith, ih (rw q at e)))
       go false q ih = rw q (omega (arith, count_most xs))

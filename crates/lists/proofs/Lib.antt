@@ -1,3 +1,5 @@
+pub mod Chains
+pub mod Chunks
 pub mod Find
 pub mod Length
 pub mod Over

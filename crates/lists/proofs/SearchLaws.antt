@@ -6,7 +6,7 @@ use mathlib.Core.List.{List, [], ◌∷◌, ◌++◌, map}
 use mathlib.Core.Bool.{Bool, true, false, cond, not, ◌&&◌, ◌||◌, false≢true}
 use native.Mathlib.Omega.{arith}
 use lib.ListN.{length, get_or, set, replicate}
-use Rattle.lists.specs.declared.Found.TheVariants.{At, Nothing}
+use Rattle.std.specs.Prelude.{Some, None}
 use Rattle.lists.specs.Search.{any_of, all_of, count_of, place_from, place_of, without_first, Each}
 use Rattle.lists.proofs.TestLaws.{by_test, and_left, and_right, or_left, or_right}
 
@@ -77,22 +77,22 @@ module _ {A : Type 0} where
       (λ e. ap₂ (λ (a b : Bool). a || b) (or_left (p x) (any_of p xs) h) others)
 
   -- a place that is found lies in the list; if none is found, no element passes
-  place_below : (p : A → Bool) (j : ℕ) (xs : List A) (i : ℕ) → place_from p j xs ≡ At i → i < j + length xs
+  place_below : (p : A → Bool) (j : ℕ) (xs : List A) (i : ℕ) → place_from p j xs ≡ Some i → i < j + length xs
   place_below p j [] i e = absurd (let z : ◌≡◌ {A = ℕ} 0 1 = cc in omega arith)
   place_below p j (x ∷ xs) i e = go (p x) refl (place_below p (suc j) xs i)
     where
-      go : (b : Bool) → p x ≡ b → (place_from p (suc j) xs ≡ At i → i < suc j + length xs) → i < j + length (x ∷ xs)
+      go : (b : Bool) → p x ≡ b → (place_from p (suc j) xs ≡ Some i → i < suc j + length xs) → i < j + length (x ∷ xs)
       go true q ih = let z : j ≡ i = cc (rw q at e) in omega (arith, z)
       go false q ih = omega (arith, ih (rw q at e))
 
-  pub place_in : (p : A → Bool) (xs : List A) (i : ℕ) → place_of p xs ≡ At i → i < length xs
+  pub place_in : (p : A → Bool) (xs : List A) (i : ℕ) → place_of p xs ≡ Some i → i < length xs
   place_in p xs i e = omega (arith, place_below p 0 xs i e)
 
-  pub none_found : (p : A → Bool) (j : ℕ) (xs : List A) → place_from p j xs ≡ Nothing → any_of p xs ≡ false
+  pub none_found : (p : A → Bool) (j : ℕ) (xs : List A) → place_from p j xs ≡ None → any_of p xs ≡ false
   none_found p j [] e = refl
   none_found p j (x ∷ xs) e = go (p x) refl (none_found p (suc j) xs)
     where
-      go : (b : Bool) → p x ≡ b → (place_from p (suc j) xs ≡ Nothing → any_of p xs ≡ false) → (p x || any_of p xs) ≡ false
+      go : (b : Bool) → p x ≡ b → (place_from p (suc j) xs ≡ None → any_of p xs ≡ false) → (p x || any_of p xs) ≡ false
       go true q ih = absurd (let e2 = (rw q at e) in let z : ◌≡◌ {A = ℕ} 0 1 = cc in omega arith)
       go false q ih = rw q (ih (rw q at e))
 

@@ -1,10 +1,12 @@
 -- What the loops that shift an array leave: one element put in, or taken out, with the others moved. Assumes nothing.
 use Prim.Native.Nat.{ℕ, suc, ◌+◌, ◌-◌, ◌≤◌, ◌<◌}
-use mathlib.Core.Path.{◌≡◌, ap, ◌∙◌, sym}
-use mathlib.Core.List.{List, ◌∷◌, ◌++◌, append_assoc}
-use lib.ListN.{length, take, drop, get_or, length-append, length-drop, get_or-append}
-use lib.Seq.{length-take-le, get_or-drop, get_or-append-add, take-append-le, take_at}
+use mathlib.Core.Path.{◌≡◌, refl, ap, ◌∙◌, sym}
+use mathlib.Core.List.{List, [], ◌∷◌, ◌++◌, append_assoc}
+use lib.ListN.{length, take, drop, get_or, set, length-append, length-drop, get_or-append}
+use lib.Seq.{paste, set_at, length-take-le, get_or-drop, get_or-append-add, take-append-le, take_at}
 use native.Mathlib.Omega.{arith}
+use Rattle.std.proofs.lemmas.List.Edits.{paste_all}
+use Rattle.lists.proofs.Find.{drop-first, drop-none}
 use Rattle.lists.specs.Shift.{inserted, removed}
 
 module _ {X : Type 0} (d : X) (at : ℕ) (l z w : List X) (inside : at ≤ length l) where
@@ -59,3 +61,16 @@ module _ {X : Type 0} (d : X) (at : ℕ) (l z w : List X) (inside : at ≤ lengt
       ((rw e at (at_plus (drop (at + 1) l ++ z) (j - at)))
       ∙ (get_or-append (drop (at + 1) l) z d (j - at) (rw length-drop (omega arith))
       ∙ (get_or-drop (at + 1) l (j - at) d ∙ (rw g (sym (get_or-append l w d (j + 1) k))))))
+
+-- what is left where those after a place move one place down and another is stored in the last
+pub replaced : {X : Type 0} (at : ℕ) (l : List X) (last : ℕ) (o : X) → length l ≡ last + 1 → at ≤ last
+    → set (paste l at (drop (at + 1) l) (length l - (at + 1))) last o ≡ removed at l ++ (o ∷ [])
+unfolding removed
+replaced {X = X} at l last o n h =
+    let rest = drop (at + 1) l in
+    let k : length l - (at + 1) ≡ length rest = rw length-drop refl in
+    let e : at + (length l - (at + 1)) ≡ last = omega arith in
+    let m : length (take at l ++ rest) ≡ last = rw (length-append, length-drop) (omega (arith, length-take-le at l (omega arith))) in
+    let d = get_or l last o in
+    let f : drop last l ≡ d ∷ [] = drop-first o l last (omega arith) ∙ ap (λ (r : List X). d ∷ r) (drop-none l (last + 1) (omega arith)) in
+    rw (paste_all l at rest (length l - (at + 1)) k, e, f, ← append_assoc) (set_at (take at l ++ rest) d [] o last m)

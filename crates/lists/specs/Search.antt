@@ -1,7 +1,6 @@
 -- Searches over a list by a test on its elements.
 use Rattle.std.specs.Prelude.{ℕ, suc, ◌+◌, List, [], ◌∷◌, Bool, true, false, cond, ◌&&◌, ◌||◌, eqb}
-use Rattle.lists.specs.declared.Found.{Found}
-use Rattle.lists.specs.declared.Found.TheVariants.{At, Nothing}
+use Rattle.std.specs.Prelude.{Option, Some, None}
 
 -- whether some element passes
 abbrev pub any_of : {A : Type 0} → (A → Bool) → List A → Bool
@@ -19,12 +18,12 @@ count_of p [] = 0
 count_of p (x ∷ xs) = cond (p x) 1 0 + count_of p xs
 
 -- the place, counted from a number on, of the first element that passes
-abbrev pub place_from : {A : Type 0} → (A → Bool) → ℕ → List A → Found
-place_from p i [] = Nothing
-place_from p i (x ∷ xs) = cond (p x) (At i) (place_from p (suc i) xs)
+abbrev pub place_from : {A : Type 0} → (A → Bool) → ℕ → List A → Option ℕ
+place_from p i [] = None
+place_from p i (x ∷ xs) = cond (p x) (Some i) (place_from p (suc i) xs)
 
 -- the place of the first element that passes
-abbrev pub place_of : {A : Type 0} → (A → Bool) → List A → Found
+abbrev pub place_of : {A : Type 0} → (A → Bool) → List A → Option ℕ
 place_of p xs = place_from p 0 xs
 
 -- the list without the first element that passes
@@ -33,14 +32,14 @@ without_first p [] = []
 without_first p (x ∷ xs) = cond (p x) xs (x ∷ without_first p xs)
 
 -- whether a place is the one found
-abbrev pub is_at : Found → ℕ → Bool
-is_at (At j) i = eqb j i
-is_at Nothing i = false
+abbrev pub is_at : Option ℕ → ℕ → Bool
+is_at (Some j) i = eqb j i
+is_at None i = false
 
 -- the second place where the first was not found
-abbrev pub or_else : Found → Found → Found
-or_else (At i) other = At i
-or_else Nothing other = other
+abbrev pub or_else : Option ℕ → Option ℕ → Option ℕ
+or_else (Some i) other = Some i
+or_else None other = other
 
 -- what holds of every element
 abbrev pub Each : {A : Type 0} → (A → Type 0) → List A → Type 0

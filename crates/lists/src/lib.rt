@@ -1,9 +1,2 @@
-// Lists, below every layer: searches in specs/ and their laws in proofs/, and the answer of a search for a place.
+// Lists, below every layer: searches and shifts in specs/, and their laws in proofs/. It has no code.
 #![tactic(auto)]
-
-// The place at which a search ended.
-#[derive(Clone, Copy)]
-pub enum Found {
-    At(usize),
-    Nothing,
-}

@@ -3,18 +3,18 @@ use Prim.Native.Nat.{ℕ, ◌+◌}
 use mathlib.Core.Path.{◌≡◌, refl, sym, ap, subst, ◌∙◌}
 use mathlib.Core.Logic.{◌⊎◌, inl, inr}
 use mathlib.Core.List.{List, [], ◌∷◌, ◌++◌}
-use mathlib.Core.Option.{Option, none, some}
+use Rattle.std.specs.Prelude.{Option, Some, None}
 use mathlib.Core.Bool.{Bool, true, false, cond, false≢true}
 use native.Mathlib.Omega.{arith}
 use lib.Dec.{eqb}
 use borrow.Author.Tests.{eqb-true}
 use Rattle.records.specs.declared.Record.{Record}
-use Rattle.records.specs.declared.Reading.TheVariants.{Says}
 use Rattle.records.specs.Records.{reading, kind_day_mark}
 use Rattle.records.proofs.Readings.{says}
 use Rattle.premise.specs.declared.Order.{Order}
 use Rattle.premise.specs.declared.File.{File}
-use Rattle.premise.specs.declared.Answer.TheVariants.{NotNextDay}
+use Rattle.std.specs.Prelude.{Err}
+use Rattle.premise.specs.declared.Refusal.TheVariants.{NotNextDay}
 use Rattle.premise.specs.Orders.{held}
 use Rattle.premise.specs.Steps.{is}
 use Rattle.premise.specs.Refusals.{number, orders_of}
@@ -43,7 +43,7 @@ use Rattle.order_ends.specs.Endings.{order_for}
 -- a record that the premise hears, and what becomes of its order; a day mark is the next day's
 pub record Done (calendar : List ℕ) (b : Book) (premise reference : ℕ) (m : Made) : Type 0 where
   pub said : Record
-  pub says : reading m.bytes ≡ Says said
+  pub says : reading m.bytes ≡ Some said
   pub own : is kind_day_mark said ≡ false → said.premise ≡ premise
   pub accepted : number m.reply.answer ≡ 0
   pub becomes : Becomes calendar b.today premise said reference (orders_of (file_for premise (files_of b))) (order_for premise reference b)
@@ -53,7 +53,7 @@ pub record Done (calendar : List ℕ) (b : Book) (premise reference : ℕ) (m : 
 
 -- a call that leaves the premise and T; it is no accepted day mark
 pub record Left (b : Book) (premise reference : ℕ) (m : Made) : Type 0 where
-  pub no_mark : number m.reply.answer ≡ 0 → (r : Record) → reading m.bytes ≡ Says r → is kind_day_mark r ≡ false
+  pub no_mark : number m.reply.answer ≡ 0 → (r : Record) → reading m.bytes ≡ Some r → is kind_day_mark r ≡ false
   pub order : order_for premise reference m.reply.book ≡ order_for premise reference b
   pub today : m.reply.book.today ≡ b.today
 
@@ -66,16 +66,16 @@ dated : (calendar : List ℕ) (s : State) (r : Record) → number (step calendar
 dated calendar s r z = go (is kind_day_mark r) refl
   where
     marked_day : (file : Option File) → (marked_or calendar r.day file).state.today ≡ r.day
-    marked_day none = refl
-    marked_day (some f) = refl
+    marked_day None = refl
+    marked_day (Some f) = refl
 
     mark : (next : Bool) → eqb r.day (s.today + 1) ≡ next
-        → step calendar s r ≡ cond next (marked_or calendar r.day s.file) (refused NotNextDay s)
+        → step calendar s r ≡ cond next (marked_or calendar r.day s.file) (refused (Err NotNextDay) s)
         → (r.day ≡ s.today + 1) × ((step calendar s r).state.today ≡ s.today + 1)
     mark true q e =
         let day = eqb-true r.day (s.today + 1) q in
         (day, ap (λ (x : Given). x.state.today) e ∙ marked_day s.file ∙ day)
-    mark false q e = absurd (refusing NotNextDay refl (sym (ap (λ (x : Given). number x.answer) e) ∙ z))
+    mark false q e = absurd (refusing NotNextDay (sym (ap (λ (x : Given). number x.answer) e) ∙ z))
 
     go : (is-mark : Bool) → is kind_day_mark r ≡ is-mark → Dated calendar s r
     go true t =
@@ -132,13 +132,13 @@ module _ (calendar : List ℕ) (b : Book) (m : Made) (k : book_kept b ≡ true)
       go (inr h) = inr (unheard_left h)
 
 -- an order of a well_kept book is kept
-pub order_kept_lem : (b : Book) → book_kept b ≡ true → (premise reference : ℕ) (o : Order) → order_for premise reference b ≡ some o → OrderKept o
+pub order_kept_lem : (b : Book) → book_kept b ≡ true → (premise reference : ℕ) (o : Order) → order_for premise reference b ≡ Some o → OrderKept o
 unfolding order_for
 order_kept_lem b k premise reference o e = go (file_for premise (files_of b)) (found_kept b ((book_kept_means b).0 k) premise) e
   where
-    go : (file : Option File) → Held (KeptFor premise) file → order_in reference (orders_of file) ≡ some o → OrderKept o
-    go none h q = absurd (let z : ◌≡◌ {A = ℕ} 0 1 = cc in omega arith)
-    go (some f) h q = found_each (has_reference reference) OrderKept (held f) o (orders_facts (held f) h.kept.orders) q
+    go : (file : Option File) → Held (KeptFor premise) file → order_in reference (orders_of file) ≡ Some o → OrderKept o
+    go None h q = absurd (let z : ◌≡◌ {A = ℕ} 0 1 = cc in omega arith)
+    go (Some f) h q = found_each (has_reference reference) OrderKept (held f) o (orders_facts (held f) h.kept.orders) q
 
 -- ---- lists of calls
 pub last-append : (b : Book) (xs ys : List Made) → last_book b (xs ++ ys) ≡ last_book (last_book b xs) ys

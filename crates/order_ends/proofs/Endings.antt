@@ -4,7 +4,7 @@ use Prim.Native.Nat.{ℕ, min}
 use mathlib.Core.Path.{◌≡◌, refl, sym, ap, subst, ◌∙◌}
 use mathlib.Core.Logic.{◌⊎◌, inl, inr}
 use mathlib.Core.List.{List, [], ◌∷◌, ◌++◌, append_assoc, append-nil}
-use mathlib.Core.Option.{Option, none, some}
+use Rattle.std.specs.Prelude.{Option, Some, None}
 use mathlib.Core.Bool.{Bool, true, false, not, ◌&&◌, false≢true}
 use native.Mathlib.Omega.{arith}
 use lib.Dec.{eqb, leb}
@@ -33,19 +33,19 @@ use Rattle.order_ends.proofs.Calls.{Done, Left, one_call, last-append, call_kept
 
 -- ---- by what becomes of an order
 module _ (calendar : List ℕ) (today premise : ℕ) (r : Record) (reference : ℕ) (os : List Order) (o : Order) where
-  closed_becomes : (before after : Option Order) → Becomes calendar today premise r reference os before after → before ≡ some o
-      → is_closed o ≡ true → is_there after ≡ true → after ≡ some o
-  closed_becomes none after s e c t = absurd (let z : ◌≡◌ {A = ℕ} 0 1 = cc in omega arith)
-  closed_becomes (some x) none s e c t = absurd (false≢true t)
-  closed_becomes (some x) (some y) s e c t =
+  closed_becomes : (before after : Option Order) → Becomes calendar today premise r reference os before after → before ≡ Some o
+      → is_closed o ≡ true → is_there after ≡ true → after ≡ Some o
+  closed_becomes None after s e c t = absurd (let z : ◌≡◌ {A = ℕ} 0 1 = cc in omega arith)
+  closed_becomes (Some x) None s e c t = absurd (false≢true t)
+  closed_becomes (Some x) (Some y) s e c t =
       let same : x ≡ o = cc in
-      ap some (s.closed (ap is_closed same ∙ c) ∙ same)
+      ap Some (s.closed (ap is_closed same ∙ c) ∙ same)
 
-  goes_becomes : (before after : Option Order) → Becomes calendar today premise r reference os before after → before ≡ some o → after ≡ none
+  goes_becomes : (before after : Option Order) → Becomes calendar today premise r reference os before after → before ≡ Some o → after ≡ None
       → Goes os r o
-  goes_becomes none after s e n = absurd (let z : ◌≡◌ {A = ℕ} 0 1 = cc in omega arith)
-  goes_becomes (some x) none s e n = subst (Goes os r) (let same : x ≡ o = cc in same) s
-  goes_becomes (some x) (some y) s e n = absurd (let z : ◌≡◌ {A = ℕ} 0 1 = cc in omega arith)
+  goes_becomes None after s e n = absurd (let z : ◌≡◌ {A = ℕ} 0 1 = cc in omega arith)
+  goes_becomes (Some x) None s e n = subst (Goes os r) (let same : x ≡ o = cc in same) s
+  goes_becomes (Some x) (Some y) s e n = absurd (let z : ◌≡◌ {A = ℕ} 0 1 = cc in omega arith)
 
 -- a retire and a new order are no day marks
 no_mark : (os : List Order) (r : Record) (o : Order) → Goes os r o → is kind_day_mark r ≡ false
@@ -58,16 +58,16 @@ no_mark os r o g = go g.how
 -- ---- one call
 module _ (calendar : List ℕ) (premise reference : ℕ) where
   module _ (b : Book) (m : Made) (k : book_kept b ≡ true) (p : Promised calendar b m.bytes m.lent m.reply m.after) (o : Order)
-      (e : order_for premise reference b ≡ some o) where
+      (e : order_for premise reference b ≡ Some o) where
     pub closed_stays : is_closed o ≡ true → is_there (order_for premise reference m.reply.book) ≡ true
-        → order_for premise reference m.reply.book ≡ some o
+        → order_for premise reference m.reply.book ≡ Some o
     closed_stays c t = go (one_call calendar b m k p premise reference)
       where
-        go : Done calendar b premise reference m ⊎ Left b premise reference m → order_for premise reference m.reply.book ≡ some o
+        go : Done calendar b premise reference m ⊎ Left b premise reference m → order_for premise reference m.reply.book ≡ Some o
         go (inl d) = closed_becomes calendar b.today premise d.said reference _ o _ _ d.becomes e c t
         go (inr l) = l.order ∙ e
 
-    gone_so : order_for premise reference m.reply.book ≡ none → Gone b premise o m
+    gone_so : order_for premise reference m.reply.book ≡ None → Gone b premise o m
     gone_so n = go (one_call calendar b m k p premise reference)
       where
         go : Done calendar b premise reference m ⊎ Left b premise reference m → Gone b premise o m
@@ -87,13 +87,13 @@ module _ (calendar : List ℕ) (premise reference : ℕ) where
     open_stays q = there_unless (λ g. false≢true (ap not (sym q) ∙ g.goes.closed))
 
   -- ---- lists of calls
-  found : (x : Option Order) → is_there x ≡ true → (o : Order) × (x ≡ some o)
-  found none t = absurd (false≢true t)
-  found (some o) t = (o, refl)
+  found : (x : Option Order) → is_there x ≡ true → (o : Order) × (x ≡ Some o)
+  found None t = absurd (false≢true t)
+  found (Some o) t = (o, refl)
 
   pub stays_from : (b : Book) (ms : List Made) → book_kept b ≡ true → Played calendar b ms
-      → (o : Order) → order_for premise reference b ≡ some o → is_closed o ≡ true → ThereAfterEach premise reference ms
-      → order_for premise reference (last_book b ms) ≡ some o
+      → (o : Order) → order_for premise reference b ≡ Some o → is_closed o ≡ true → ThereAfterEach premise reference ms
+      → order_for premise reference (last_book b ms) ≡ Some o
   stays_from b [] k p o e c t = e
   stays_from b (m ∷ ms) k p o e c t =
       stays_from m.reply.book ms (call_kept calendar b m k p.0) p.1 o (closed_stays b m k p.0 o e c t.0) c t.1
@@ -110,7 +110,7 @@ module _ (calendar : List ℕ) (premise reference : ℕ) where
   module _ (start : ℕ) where
     -- after a list of calls it is known where it came from, or it is not there
     abbrev Known : List Made → Type 0
-    Known ms = Came calendar start premise reference ms ⊎ (order_for premise reference (last_book (fresh_book start) ms) ≡ none)
+    Known ms = Came calendar start premise reference ms ⊎ (order_for premise reference (last_book (fresh_book start) ms) ≡ None)
 
     after_one : (xs : List Made) (m : Made) → last_book (fresh_book start) (xs ++ (m ∷ [])) ≡ m.reply.book
     after_one xs m = last-append (fresh_book start) xs (m ∷ [])
@@ -118,7 +118,7 @@ module _ (calendar : List ℕ) (premise reference : ℕ) where
     -- one call more, after which it is there
     known_there : (xs : List Made) (m : Made) → book_kept (last_book (fresh_book start) xs) ≡ true
         → Promised calendar (last_book (fresh_book start) xs) m.bytes m.lent m.reply m.after
-        → (o : Order) → order_for premise reference m.reply.book ≡ some o → Known xs
+        → (o : Order) → order_for premise reference m.reply.book ≡ Some o → Known xs
         → Came calendar start premise reference (xs ++ (m ∷ []))
     known_there xs m k p o e (inl c) =
         record {
@@ -144,11 +144,11 @@ module _ (calendar : List ℕ) (premise reference : ℕ) where
 
         comes : (r : Record) (os : List Order) (before after : Option Order)
             → Becomes calendar b.today premise r reference os before after
-            → before ≡ none → after ≡ some o → Comes calendar b.today r reference o
-        comes r os none none s f q = absurd (let z : ◌≡◌ {A = ℕ} 0 1 = cc in omega arith)
-        comes r os none (some x) s f q =
+            → before ≡ None → after ≡ Some o → Comes calendar b.today r reference o
+        comes r os None None s f q = absurd (let z : ◌≡◌ {A = ℕ} 0 1 = cc in omega arith)
+        comes r os None (Some x) s f q =
             subst (Comes calendar b.today r reference) (let same : x ≡ o = cc in same) s
-        comes r os (some x) after s f q = absurd (let z : ◌≡◌ {A = ℕ} 0 1 = cc in omega arith)
+        comes r os (Some x) after s f q = absurd (let z : ◌≡◌ {A = ℕ} 0 1 = cc in omega arith)
 
         go : Done calendar b premise reference m ⊎ Left b premise reference m → Came calendar start premise reference (xs ++ (m ∷ []))
         go (inr l) = absurd (let l2 = l.order in let z : ◌≡◌ {A = ℕ} 0 1 = cc in omega arith)
@@ -166,7 +166,7 @@ module _ (calendar : List ℕ) (premise reference : ℕ) where
               own = d.own (ap (λ (kind : ℕ). eqb kind kind_day_mark) (eqb-true d.said.kind kind_new_order c.kind));
               names = c.names;
               free = free;
-              begins = e ∙ ap some c.new;
+              begins = e ∙ ap Some c.new;
               since = tt;
             }
 
@@ -176,8 +176,8 @@ module _ (calendar : List ℕ) (premise reference : ℕ) where
     known_next xs m k p c = go (order_for premise reference m.reply.book) refl
       where
         go : (after : Option Order) → order_for premise reference m.reply.book ≡ after → Known (xs ++ (m ∷ []))
-        go none e = inr (ap (order_for premise reference) (after_one xs m) ∙ e)
-        go (some o) e = inl (known_there xs m k p o e c)
+        go None e = inr (ap (order_for premise reference) (after_one xs m) ∙ e)
+        go (Some o) e = inl (known_there xs m k p o e c)
 
     known_all : (ys xs : List Made) → book_kept (last_book (fresh_book start) xs) ≡ true
         → Played calendar (last_book (fresh_book start) xs) ys → Known xs → Known (xs ++ ys)
@@ -188,7 +188,7 @@ module _ (calendar : List ℕ) (premise reference : ℕ) where
         (subst (λ (b : Book). Played calendar b ys) (sym (after_one xs m)) p.1) (known_next xs m k p.0 c))
 
     -- a fresh book has no order
-    fresh_none : order_for premise reference (fresh_book start) ≡ none
+    fresh_none : order_for premise reference (fresh_book start) ≡ None
     unfolding order_for file_for
     fresh_none = ap (λ (s : State). order_in reference (orders_of s.file)) (state_of (min start last_day) premise [])
 
@@ -222,7 +222,7 @@ each_came : EachCame
 each_came calendar start ms p premise reference t =
     go (known_all calendar premise reference start ms [] (fresh_kept start) p (inr (fresh_none calendar premise reference start)))
   where
-    go : Came calendar start premise reference ms ⊎ (order_for premise reference (last_book (fresh_book start) ms) ≡ none)
+    go : Came calendar start premise reference ms ⊎ (order_for premise reference (last_book (fresh_book start) ms) ≡ None)
         → Came calendar start premise reference ms
     go (inl c) = c
     go (inr n) = absurd (false≢true (sym (ap is_there n) ∙ t))
@@ -242,7 +242,7 @@ comes_to_one_end calendar start first second p premise reference o after e n q =
       unexecutable_not_complete = λ s. other unexecutable complete refl refl s;
     }
   where
-    inside : (x y : Order) → ◌≡◌ {A = Option Order} (some x) (some y) → x ≡ y
+    inside : (x y : Order) → ◌≡◌ {A = Option Order} (Some x) (Some y) → x ≡ y
     inside x y e = cc
 
     other : (one another : ℕ) → (leb in_review one && leb one cancel_pending) ≡ false → eqb one another ≡ false → has_status one o ≡ true

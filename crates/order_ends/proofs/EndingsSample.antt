@@ -1,7 +1,7 @@
 -- The sample of the first theorem comes out as it must, and the theorem speaks of it: its premises can be met. Assumes nothing.
 use mathlib.Core.Path.{◌≡◌, refl}
 use mathlib.Core.List.{[], ◌++◌}
-use mathlib.Core.Option.{some}
+use Rattle.std.specs.Prelude.{Some}
 use Rattle.lists.proofs.SearchLaws.{each_of_all}
 use Rattle.days.specs.Days.{kind_of_day, is_business_day, switch_date}
 use Rattle.days.specs.Window.{business_days, in_window}
@@ -39,7 +39,7 @@ unfolding reviewed permit_awaited cancel_awaited ticked contends switch_of_day g
 comes = record { complete = refl; answered = refl; there = refl; statuses7 = refl; statuses5 = refl }
 
 -- the theorem says that it is the same order after the second part
-pub stays : order_for 7 1 (last_book (fresh_book 10) (completed ++ kept)) ≡ some done
+pub stays : order_for 7 1 (last_book (fresh_book 10) (completed ++ kept)) ≡ Some done
 unfolding completed kept done
 stays =
     endings.stays [] 10 completed kept

@@ -3,7 +3,7 @@ use Prim.Native.Nat.{ℕ, ◌+◌, ◌≤◌, ◌<◌}
 use mathlib.Core.Path.{◌≡◌, refl, sym, ap, ap₂, subst, ◌∙◌}
 use mathlib.Core.Logic.{◌⊎◌, inl, inr}
 use mathlib.Core.List.{List, [], ◌∷◌, ◌++◌}
-use mathlib.Core.Option.{Option, none, some}
+use Rattle.std.specs.Prelude.{Option, Some, None}
 use mathlib.Core.Bool.{Bool, true, false, cond, not, ◌&&◌, false≢true}
 use native.Mathlib.Omega.{arith}
 use lib.Dec.{eqb, ltb}
@@ -13,8 +13,6 @@ use Rattle.lists.proofs.TestLaws.{or_either}
 use Rattle.lists.proofs.SearchLaws.{count_append}
 use Rattle.days.specs.Days.{is_business_day}
 use Rattle.records.specs.declared.Record.{Record}
-use Rattle.records.specs.declared.Reading.{Reading}
-use Rattle.records.specs.declared.Reading.TheVariants.{Malformed, Says}
 use Rattle.records.specs.Records.{reading, kind_day_mark}
 use Rattle.premise.specs.declared.Order.{Order}
 use Rattle.premise.specs.Orders.{in_review, cancel_pending, has_status, is_open, is_closed}
@@ -45,11 +43,11 @@ module _ (calendar : List ℕ) where
       by true = refl
       by false = omega arith
 
-      left : (zero : Bool) (d : Reading) → eqb (number m.reply.answer) 0 ≡ zero → reading m.bytes ≡ d → Left b 0 0 m
+      left : (zero : Bool) (d : Option Record) → eqb (number m.reply.answer) 0 ≡ zero → reading m.bytes ≡ d → Left b 0 0 m
           → (zero && is_mark d) ≡ false
       left false d z e l = refl
-      left true Malformed z e l = refl
-      left true (Says r) z e l = l.no_mark (eqb-true (number m.reply.answer) 0 z) r e
+      left true None z e l = refl
+      left true (Some r) z e l = l.no_mark (eqb-true (number m.reply.answer) 0 z) r e
 
       go : Done calendar b 0 0 m ⊎ Left b 0 0 m → m.reply.book.today ≡ b.today + cond (is_accepted_mark m) 1 0
       go (inl d) =
@@ -80,16 +78,16 @@ waits_open o q = or_either (has_status in_review o) (has_status cancel_pending o
 
 waits_becomes : (calendar : List ℕ) (today premise : ℕ) (r : Record) (reference : ℕ) (os : List Order) (o : Order)
     (before after : Option Order)
-    → Becomes calendar today premise r reference os before after → before ≡ some o → Waits o
+    → Becomes calendar today premise r reference os before after → before ≡ Some o → Waits o
     → (is kind_day_mark r ≡ false → r.reference ≡ reference → ⊥)
-    → after ≡ some (cond (is kind_day_mark r) (ticked (is_business_day calendar r.day) r.day premise o).order o)
-waits_becomes calendar today premise r reference os o none after s e q u = absurd (let z : ◌≡◌ {A = ℕ} 0 1 = cc in omega arith)
-waits_becomes calendar today premise r reference os o (some x) none s e q u =
+    → after ≡ Some (cond (is kind_day_mark r) (ticked (is_business_day calendar r.day) r.day premise o).order o)
+waits_becomes calendar today premise r reference os o None after s e q u = absurd (let z : ◌≡◌ {A = ℕ} 0 1 = cc in omega arith)
+waits_becomes calendar today premise r reference os o (Some x) None s e q u =
     let same : x ≡ o = cc in
     absurd (false≢true (ap not (sym (waits_open o q)) ∙ ap is_closed (sym same) ∙ s.closed))
-waits_becomes calendar today premise r reference os o (some x) (some y) s e q u =
+waits_becomes calendar today premise r reference os o (Some x) (Some y) s e q u =
     let same : x ≡ o = cc in
-    ap some ((subst (λ (z : Order). Stays calendar premise r reference z y) same s).waits q u)
+    ap Some ((subst (λ (z : Order). Stays calendar premise r reference z y) same s).waits q u)
 
 -- a record of the premise that an accepted call does not name it by
 not_named : (calendar : List ℕ) (b : Book) (premise reference : ℕ) (m : Made) (d : Done calendar b premise reference m)
@@ -106,7 +104,7 @@ module _ (calendar : List ℕ) (premise reference today : ℕ) (o : Order) (revi
 
   -- it is what it is on that day
   abbrev AsOnDay : Book → Type 0
-  AsOnDay b = order_for premise reference b ≡ some (on_day calendar today o b.today)
+  AsOnDay b = order_for premise reference b ≡ Some (on_day calendar today o b.today)
 
   module _ (b : Book) (m : Made) (k : book_kept b ≡ true) (p : Promised calendar b m.bytes m.lent m.reply m.after)
       (after : today ≤ b.today) (e : AsOnDay b) where
@@ -116,31 +114,31 @@ module _ (calendar : List ℕ) (premise reference today : ℕ) (o : Order) (revi
         done : (d : Done calendar b premise reference m) (mark : Bool) → is kind_day_mark d.said ≡ mark
             → m.reply.book.today ≡ cond mark (b.today + 1) b.today
             → order_for premise reference m.reply.book
-            ≡ some (cond mark
+            ≡ Some (cond mark
             (ticked (is_business_day calendar d.said.day) d.said.day premise (on_day calendar today o b.today)).order
             (on_day calendar today o b.today))
             → AsOnDay m.reply.book
         done d true t moved q =
             let last = ((book_kept_means m.reply.book).0 (call_kept calendar b m k p)).today in
             q
-            ∙ ap (λ (day : ℕ). some (ticked (is_business_day calendar day) day premise (on_day calendar today o b.today)).order)
+            ∙ ap (λ (day : ℕ). Some (ticked (is_business_day calendar day) day premise (on_day calendar today o b.today)).order)
             (d.next t)
-            ∙ ap some (on_next calendar today o review kept b.today after (omega arith) h premise)
-            ∙ ap (λ (day : ℕ). some (on_day calendar today o day)) (sym moved)
-        done d false t moved q = q ∙ ap (λ (day : ℕ). some (on_day calendar today o day)) (sym moved)
+            ∙ ap Some (on_next calendar today o review kept b.today after (omega arith) h premise)
+            ∙ ap (λ (day : ℕ). Some (on_day calendar today o day)) (sym moved)
+        done d false t moved q = q ∙ ap (λ (day : ℕ). Some (on_day calendar today o day)) (sym moved)
 
         go : Done calendar b premise reference m ⊎ Left b premise reference m → AsOnDay m.reply.book
         go (inl d) =
             done d (is kind_day_mark d.said) refl d.today
             (waits_becomes calendar b.today premise d.said reference _ (on_day calendar today o b.today) _ _ d.becomes e
             (on_waits calendar today o review kept b.today h) (not_named calendar b premise reference m d u))
-        go (inr l) = l.order ∙ e ∙ ap (λ (day : ℕ). some (on_day calendar today o day)) (sym l.today)
+        go (inr l) = l.order ∙ e ∙ ap (λ (day : ℕ). Some (on_day calendar today o day)) (sym l.today)
 
     after_end : turning + 7 ≤ b.today → is_there (order_for premise reference m.reply.book) ≡ true → AsOnDay m.reply.book
     after_end h t =
         closed_stays calendar premise reference b m k p (on_day calendar today o b.today) e
         (on_closed calendar today o review kept b.today h) t
-        ∙ ap some
+        ∙ ap Some
         (on_ended calendar today o b.today h
         ∙ sym (on_ended calendar today o m.reply.book.today (omega (arith, h, call_moves calendar b m k p))))
 
@@ -198,22 +196,22 @@ module _ (calendar : List ℕ) (premise reference today : ℕ) (o : Order) (revi
       )
 
   hangs : (b : Book) (ms : List Made) → book_kept b ≡ true → Played calendar b ms → Each (Unnamed premise reference) ms
-      → b.today ≡ today → order_for premise reference b ≡ some o → Hangs calendar premise reference o today ms (last_book b ms)
+      → b.today ≡ today → order_for premise reference b ≡ Some o → Hangs calendar premise reference o today ms (last_book b ms)
   hangs b ms k p u t e =
       let now = (last_book b ms).today in
       let first = on_first calendar today o review kept (omega (arith, t, ((book_kept_means b).0 k).today)) in
-      let as-was : AsOnDay b = e ∙ ap some (sym first) ∙ ap (λ (day : ℕ). some (on_day calendar today o day)) (sym t) in
+      let as-was : AsOnDay b = e ∙ ap Some (sym first) ∙ ap (λ (day : ℕ). Some (on_day calendar today o day)) (sym t) in
       let then = follow b ms k p u (omega arith) as-was in
       record {
         unscheduled = no_day_lem calendar today o review kept;
-        waits = λ h. then (followed_early b ms k p (omega arith)) ∙ ap some (on_before calendar today o now h);
-        pends = λ h l. then (followed_early b ms k p (omega arith)) ∙ ap some (on_pending calendar today o now h (omega arith));
+        waits = λ h. then (followed_early b ms k p (omega arith)) ∙ ap Some (on_before calendar today o now h);
+        pends = λ h l. then (followed_early b ms k p (omega arith)) ∙ ap Some (on_pending calendar today o now h (omega arith));
         ends = λ before m q a h.
             then
             (subst (Followed b) (sym q)
             (followed_last b before m k (subst (Played calendar b) q p) a (ap (λ (l : List Made). (last_book b l).today) (sym q) ∙ h)))
-            ∙ ap some (on_ended calendar today o now (omega arith));
-        stays = λ h l. then (followed_there b ms l) ∙ ap some (on_ended calendar today o now h);
+            ∙ ap Some (on_ended calendar today o now (omega arith));
+        stays = λ h l. then (followed_there b ms l) ∙ ap Some (on_ended calendar today o now h);
       }
 
 pub hangs_until_its_day : HangsUntilItsDay

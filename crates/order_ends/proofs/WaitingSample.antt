@@ -1,7 +1,7 @@
 -- The samples of the second theorem come out as they must, and the theorem speaks of them: its premises can be met. Assumes nothing.
 use mathlib.Core.Path.{◌≡◌, refl}
 use mathlib.Core.List.{[], ◌∷◌, ◌++◌}
-use mathlib.Core.Option.{some}
+use Rattle.std.specs.Prelude.{Some}
 use lib.Dec.{lit≤}
 use Rattle.lists.proofs.SearchLaws.{each_of_all}
 use Rattle.days.specs.Days.{kind_of_day, is_business_day, switch_date}
@@ -64,5 +64,5 @@ hangs =
     7 1 waiting comes.f.arrives refl (all_unnamed 7 1 hung comes.f.unnamed)
 
 pub cancelled : order_for 7 1 (last_book (fresh_book 50) (arrived ++ hung))
-    ≡ some (cancelled_of every_day (last_book (fresh_book 50) arrived).today waiting)
+    ≡ Some (cancelled_of every_day (last_book (fresh_book 50) arrived).today waiting)
 cancelled = hangs.stays comes.f.over (each_of_all (λ (m : Made). is_there (order_for 7 1 m.reply.book)) hung comes.f.there)

@@ -3,10 +3,9 @@
 -- reference may be used anew." About what calls returned, whatever their bytes and their buffers;
 -- proofs/Endings.antt proves it (`endings`).
 use Rattle.std.specs.Prelude.{ℕ, ◌≡◌, List, [], ◌∷◌, ◌++◌, true, false}
-use Rattle.std.proofs.Math.Option.{Option, none, some}
+use Rattle.std.specs.Prelude.{Option, Some, None}
 use Rattle.lists.specs.Search.{Each}
 use Rattle.records.specs.declared.Record.{Record}
-use Rattle.records.specs.declared.Reading.TheVariants.{Says}
 use Rattle.records.specs.Records.{reading, kind_new_order}
 use Rattle.premise.specs.declared.Order.{Order}
 use Rattle.premise.specs.Orders.{complete, cancelled, unexecutable, has_status, is_open, is_closed}
@@ -30,16 +29,16 @@ ThereAfterEach premise reference ms = Each (λ (m : Made). is_there (order_for p
 abbrev pub ClosedStays : Type 0
 ClosedStays =
     (calendar : List ℕ) (start : ℕ) (first second : List Made) → Played calendar (fresh_book start) (first ++ second)
-    → (premise reference : ℕ) (o : Order) → order_for premise reference (last_book (fresh_book start) first) ≡ some o → is_closed o ≡ true
+    → (premise reference : ℕ) (o : Order) → order_for premise reference (last_book (fresh_book start) first) ≡ Some o → is_closed o ≡ true
     → ThereAfterEach premise reference second
-    → order_for premise reference (last_book (fresh_book start) (first ++ second)) ≡ some o
+    → order_for premise reference (last_book (fresh_book start) (first ++ second)) ≡ Some o
 
 -- ---- "until it is dropped or its premise retired"
 -- A call is accepted with a record of a premise that takes an order away: a retire, or a new order that finds eight held, of which it is
 -- the oldest closed one (`Goes`).
 pub record Gone (b : Book) (premise : ℕ) (o : Order) (m : Made) : Type 0 where
   pub said : Record
-  pub says : reading m.bytes ≡ Says said
+  pub says : reading m.bytes ≡ Some said
   pub accepted : number m.reply.answer ≡ 0
   pub own : said.premise ≡ premise
   pub goes : Goes (orders_of (file_for premise (files_of b))) said o
@@ -48,22 +47,22 @@ pub record Gone (b : Book) (premise : ℕ) (o : Order) (m : Made) : Type 0 where
 abbrev pub GoneByItsCall : Type 0
 GoneByItsCall =
     (calendar : List ℕ) (start : ℕ) (before : List Made) (m : Made) → Played calendar (fresh_book start) (before ++ (m ∷ []))
-    → (premise reference : ℕ) (o : Order) → order_for premise reference (last_book (fresh_book start) before) ≡ some o
-    → order_for premise reference m.reply.book ≡ none
+    → (premise reference : ℕ) (o : Order) → order_for premise reference (last_book (fresh_book start) before) ≡ Some o
+    → order_for premise reference m.reply.book ≡ None
     → Gone (last_book (fresh_book start) before) premise o m
 
 -- an open order is there after the next call
 abbrev pub OpenStaysThere : Type 0
 OpenStaysThere =
     (calendar : List ℕ) (start : ℕ) (before : List Made) (m : Made) → Played calendar (fresh_book start) (before ++ (m ∷ []))
-    → (premise reference : ℕ) (o : Order) → order_for premise reference (last_book (fresh_book start) before) ≡ some o → is_open o ≡ true
+    → (premise reference : ℕ) (o : Order) → order_for premise reference (last_book (fresh_book start) before) ≡ Some o → is_open o ≡ true
     → is_there (order_for premise reference m.reply.book) ≡ true
 
 -- no call of a list, made on a book and on those that the calls return, takes the order away
 abbrev pub NeverGone : ℕ → ℕ → Book → List Made → Type 0
 NeverGone premise reference b [] = Unit {0}
 NeverGone premise reference b (m ∷ ms) =
-    ((o : Order) → order_for premise reference b ≡ some o → Gone b premise o m → ⊥) × NeverGone premise reference m.reply.book ms
+    ((o : Order) → order_for premise reference b ≡ Some o → Gone b premise o m → ⊥) × NeverGone premise reference m.reply.book ms
 
 -- so long it is there after every call
 abbrev pub ThereUntilGone : Type 0
@@ -82,13 +81,13 @@ pub record Came (calendar : List ℕ) (start premise reference : ℕ) (ms : List
   pub later : List Made
   pub whole : ms ≡ before ++ (call ∷ later)
   pub said : Record
-  pub says : reading call.bytes ≡ Says said
+  pub says : reading call.bytes ≡ Some said
   pub accepted : number call.reply.answer ≡ 0
   pub kind : is kind_new_order said ≡ true
   pub own : said.premise ≡ premise
   pub names : said.reference ≡ reference
-  pub free : order_for premise reference (last_book (fresh_book start) before) ≡ none
-  pub begins : order_for premise reference call.reply.book ≡ some (new_order calendar (last_book (fresh_book start) before).today said)
+  pub free : order_for premise reference (last_book (fresh_book start) before) ≡ None
+  pub begins : order_for premise reference call.reply.book ≡ Some (new_order calendar (last_book (fresh_book start) before).today said)
   pub since : ThereAfterEach premise reference later
 
 abbrev pub EachCame : Type 0
@@ -109,9 +108,9 @@ abbrev pub ComesToOneEnd : Type 0
 ComesToOneEnd =
     (calendar : List ℕ) (start : ℕ) (first second : List Made) → Played calendar (fresh_book start) (first ++ second)
     → (premise reference : ℕ) (o after : Order)
-    → order_for premise reference (last_book (fresh_book start) first) ≡ some o
+    → order_for premise reference (last_book (fresh_book start) first) ≡ Some o
     → NeverGone premise reference (last_book (fresh_book start) first) second
-    → order_for premise reference (last_book (fresh_book start) (first ++ second)) ≡ some after
+    → order_for premise reference (last_book (fresh_book start) (first ++ second)) ≡ Some after
     → OneEnd o after
 
 -- The first theorem, as one statement.

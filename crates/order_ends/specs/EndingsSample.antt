@@ -2,7 +2,7 @@
 -- stays so, is dropped, is used anew and becomes Unexecutable; at another premise it is Unexecutable and goes with its premise. Strewn in:
 -- a refused record that names it, and a retire with a short buffer.
 use Rattle.std.specs.Prelude.{◌≡◌, List, [], ◌∷◌, true, ℕ}
-use Rattle.std.proofs.Math.Option.{some}
+use Rattle.std.specs.Prelude.{Some}
 use Rattle.lists.specs.Search.{all_of}
 use Rattle.premise.specs.declared.Order.{Order}
 use Rattle.premise_laws.specs.Endings.{is_there}
@@ -74,7 +74,7 @@ done =
 
 -- ---- what comes out: the answers, and the status of reference 1 at both premises after every call, 0 where it is not there
 pub record Comes : Type 0 where
-  pub complete : order_for 7 1 (last_book (fresh_book 10) completed) ≡ some done
+  pub complete : order_for 7 1 (last_book (fresh_book 10) completed) ≡ Some done
   pub answered : answers_of kept ≡ 14 ∷ 0 ∷ 1 ∷ 0 ∷ 0 ∷ 0 ∷ 0 ∷ 0 ∷ 0 ∷ 0 ∷ 0 ∷ 0 ∷ []
   pub there : all_of (λ (m : Made). is_there (order_for 7 1 m.reply.book)) kept ≡ true
   pub statuses7 : statuses 7 1 anew ≡ 0 ∷ 0 ∷ 1 ∷ 7 ∷ 7 ∷ []

@@ -1,6 +1,6 @@
 -- Lists of calls that are computed: a record with the buffer that its call is lent, and what is shown of the books on the way.
 use Rattle.std.specs.Prelude.{ℕ, ◌*◌, List, [], ◌∷◌, ◌++◌, map, Bool, not, ◌&&◌, eqb, length, drop, replicate}
-use Rattle.std.proofs.Math.Option.{Option, none, some}
+use Rattle.std.specs.Prelude.{Option, Some, None}
 use Rattle.records.specs.Layout.{record_length}
 use Rattle.records.specs.Records.{reading}
 use Rattle.records.specs.Notices.{encode_all}
@@ -49,16 +49,16 @@ answers_of ms = map (λ (m : Made). number m.reply.answer) ms
 
 -- an order's status, 0 where it is not there; after every call
 abbrev pub status_of : Option Order → ℕ
-status_of none = 0
-status_of (some o) = o.status
+status_of None = 0
+status_of (Some o) = o.status
 
 abbrev pub statuses : ℕ → ℕ → List Made → List ℕ
 statuses premise reference ms = map (λ (m : Made). status_of (order_for premise reference m.reply.book)) ms
 
 -- its W, 0 where it is not there
 abbrev pub pending_in : Option Order → ℕ
-pending_in none = 0
-pending_in (some o) = o.pending.0
+pending_in None = 0
+pending_in (Some o) = o.pending.0
 
 abbrev pub pendings : ℕ → ℕ → List Made → List ℕ
 pendings premise reference ms = map (λ (m : Made). pending_in (order_for premise reference m.reply.book)) ms

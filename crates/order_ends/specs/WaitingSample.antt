@@ -2,7 +2,7 @@
 -- days. Strewn between the marks of the first: refused records that name the order, another premise's records with its reference, and a
 -- call with a short buffer.
 use Rattle.std.specs.Prelude.{ℕ, zero, suc, ◌+◌, ◌≤◌, ◌≡◌, List, [], ◌∷◌, ◌++◌, true, replicate}
-use Rattle.std.proofs.Math.Option.{some}
+use Rattle.std.specs.Prelude.{Some}
 use Rattle.lists.specs.Search.{all_of}
 use Rattle.premise.specs.declared.Order.{Order}
 use Rattle.premise_laws.specs.Endings.{is_there}
@@ -70,7 +70,7 @@ waiting =
 -- what comes out: the answers, and the order's status and W after every call
 pub record PieceF : Type 0 where
   pub turning : turning_day every_day 50 1 50 ≡ 52
-  pub arrives : order_for 7 1 (last_book (fresh_book 50) arrived) ≡ some waiting
+  pub arrives : order_for 7 1 (last_book (fresh_book 50) arrived) ≡ Some waiting
   pub answered : answers_of hung ≡ 14 ∷ 0 ∷ 13 ∷ 0 ∷ 0 ∷ 8 ∷ 0 ∷ 1 ∷ 0 ∷ 14 ∷ 0 ∷ 0 ∷ 0 ∷ 0 ∷ 0 ∷ 0 ∷ []
   pub statuses : statuses 7 1 hung ≡ 1 ∷ 1 ∷ 1 ∷ 1 ∷ 4 ∷ 4 ∷ 4 ∷ 4 ∷ 4 ∷ 4 ∷ 4 ∷ 4 ∷ 4 ∷ 4 ∷ 4 ∷ 6 ∷ []
   pub pending : pendings 7 1 hung ≡ 0 ∷ 0 ∷ 0 ∷ 0 ∷ 0 ∷ 0 ∷ 0 ∷ 0 ∷ 1 ∷ 1 ∷ 2 ∷ 3 ∷ 4 ∷ 5 ∷ 6 ∷ 0 ∷ []

@@ -3,7 +3,7 @@ use Prim.Native.Nat.{ℕ, ◌+◌}
 use mathlib.Core.Path.{◌≡◌, refl, sym, ap, ◌∙◌}
 use mathlib.Core.Logic.{◌↔◌}
 use mathlib.Core.List.{List, [], ◌∷◌, ◌++◌}
-use mathlib.Core.Option.{Option, none, some}
+use Rattle.std.specs.Prelude.{Option, Some, None}
 use mathlib.Core.Bool.{Bool, true, false, cond, not, ◌||◌}
 use lib.Dec.{eqb}
 use borrow.Author.Tests.{eqb-true, eq-eqb, not-true}
@@ -11,12 +11,12 @@ use Rattle.lists.specs.Search.{any_of, all_of}
 use Rattle.records.specs.declared.Record.{Record}
 use Rattle.records.specs.Records.{kind_create, kind_retire, kind_day_mark}
 use Rattle.premise.specs.declared.File.{File}
-use Rattle.premise.specs.declared.Answer.{Answer}
-use Rattle.premise.specs.declared.Answer.TheVariants.{Accepted, ShortBuffer, NotWellKept, MalformedRecord, NoSuchPremise}
-use Rattle.premise.specs.declared.Answer.TheVariants.{OtherAgreement, PremiseHeld, BookFull, OrderOpen, ReferenceHeld, DayOutOfRange}
-use Rattle.premise.specs.declared.Answer.TheVariants.{NoSwitchDate}
-use Rattle.premise.specs.declared.Answer.TheVariants.{NotFirstIn, RetailerShareFull, StackFull, NoSuchOrder, StatusNotTaken}
-use Rattle.premise.specs.declared.Answer.TheVariants.{CounterNotAbove, OrderInWindow, NotNextDay}
+use Rattle.std.specs.Prelude.{Ok, Err}
+use Rattle.premise.specs.Refusals.{Answer}
+use Rattle.premise.specs.declared.Refusal.TheVariants.{ShortBuffer, NotWellKept, MalformedRecord, NoSuchPremise, OtherAgreement, PremiseHeld}
+use Rattle.premise.specs.declared.Refusal.TheVariants.{BookFull, OrderOpen, ReferenceHeld, DayOutOfRange, NoSwitchDate, NotFirstIn}
+use Rattle.premise.specs.declared.Refusal.TheVariants.{RetailerShareFull, StackFull, NoSuchOrder, StatusNotTaken, CounterNotAbove, OrderInWindow}
+use Rattle.premise.specs.declared.Refusal.TheVariants.{NotNextDay}
 use Rattle.premise.specs.Steps.{is}
 use Rattle.premise.specs.Refusals.{Row, number, first_row, rows, is_held, premise_rows, order_rows}
 use Rattle.premise.specs.OnePremise.{State, Given, effect_on, decide, refused, step_with}
@@ -56,40 +56,40 @@ unfolding number premise_rows order_rows
 all_refuse calendar today file r = refl
 
 -- ---- what is decided
-decided : (a : Answer) (done : Given) (s : State) → done.answer ≡ Accepted → (decide a done s).answer ≡ a
+decided : (a : Answer) (done : Given) (s : State) → done.answer ≡ Ok tt → (decide a done s).answer ≡ a
 unfolding number
-decided Accepted done s h = h
-decided ShortBuffer done s h = refl
-decided NotWellKept done s h = refl
-decided MalformedRecord done s h = refl
-decided NoSuchPremise done s h = refl
-decided OtherAgreement done s h = refl
-decided PremiseHeld done s h = refl
-decided BookFull done s h = refl
-decided OrderOpen done s h = refl
-decided ReferenceHeld done s h = refl
-decided DayOutOfRange done s h = refl
-decided NoSwitchDate done s h = refl
-decided NotFirstIn done s h = refl
-decided RetailerShareFull done s h = refl
-decided StackFull done s h = refl
-decided NoSuchOrder done s h = refl
-decided StatusNotTaken done s h = refl
-decided CounterNotAbove done s h = refl
-decided OrderInWindow done s h = refl
-decided NotNextDay done s h = refl
+decided (Ok tt) done s h = h
+decided (Err ShortBuffer) done s h = refl
+decided (Err NotWellKept) done s h = refl
+decided (Err MalformedRecord) done s h = refl
+decided (Err NoSuchPremise) done s h = refl
+decided (Err OtherAgreement) done s h = refl
+decided (Err PremiseHeld) done s h = refl
+decided (Err BookFull) done s h = refl
+decided (Err OrderOpen) done s h = refl
+decided (Err ReferenceHeld) done s h = refl
+decided (Err DayOutOfRange) done s h = refl
+decided (Err NoSwitchDate) done s h = refl
+decided (Err NotFirstIn) done s h = refl
+decided (Err RetailerShareFull) done s h = refl
+decided (Err StackFull) done s h = refl
+decided (Err NoSuchOrder) done s h = refl
+decided (Err StatusNotTaken) done s h = refl
+decided (Err CounterNotAbove) done s h = refl
+decided (Err OrderInWindow) done s h = refl
+decided (Err NotNextDay) done s h = refl
 
 -- a property of what is done and of a refusal is one of what is decided
 pub either : (P : Given → Type 0) (a : Answer) {done : Given} (s : State) → P done → P (refused a s) → P (decide a done s)
 either P a s h k = by_test P (eqb (number a) 0) _ _ (λ e. h) (λ e. k)
 
 Accepts : Given → Type 0
-Accepts g = g.answer ≡ Accepted
+Accepts g = g.answer ≡ Ok tt
 
-effect_accepted : (calendar : List ℕ) (today : ℕ) (file : Option File) (r : Record) → (effect_on calendar today file r).answer ≡ Accepted
+effect_accepted : (calendar : List ℕ) (today : ℕ) (file : Option File) (r : Record) → (effect_on calendar today file r).answer ≡ Ok tt
 unfolding Accepts
-effect_accepted calendar today none r = by_test Accepts (is kind_create r) _ _ (λ e. refl) (λ e. refl)
-effect_accepted calendar today (some f) r =
+effect_accepted calendar today None r = by_test Accepts (is kind_create r) _ _ (λ e. refl) (λ e. refl)
+effect_accepted calendar today (Some f) r =
     by_test Accepts (is kind_retire r) _ _ (λ e. refl) (λ e. by_test Accepts (is kind_day_mark r) _ _ (λ e. refl) (λ e. refl))
 
 pub answer_is_first_row : AnswerIsFirstRow
@@ -124,8 +124,8 @@ create_passes r more h = rw (eqb-true r.kind kind_create h) refl
 -- what is done by a record that is no day mark is done on the day that it was
 effect_stays : (calendar : List ℕ) (today : ℕ) (file : Option File) (r : Record) → is kind_day_mark r ≡ false
     → (effect_on calendar today file r).state.today ≡ today
-effect_stays calendar today none r h = by_test (λ (g : Given). g.state.today ≡ today) (is kind_create r) _ _ (λ e. refl) (λ e. rw h refl)
-effect_stays calendar today (some f) r h =
+effect_stays calendar today None r h = by_test (λ (g : Given). g.state.today ≡ today) (is kind_create r) _ _ (λ e. refl) (λ e. rw h refl)
+effect_stays calendar today (Some f) r h =
     by_test (λ (g : Given). g.state.today ≡ today) (is kind_retire r) _ _ (λ e. refl) (λ e. rw h refl)
 
 pub only_marks_move : OnlyMarksMove
@@ -137,24 +137,24 @@ only_marks_move calendar s r h =
 pub only_create_makes : OnlyCreateMakes
 unfolding step_with
 only_create_makes calendar today r h =
-    either (λ g. g.state.file ≡ none) (first_row (rows calendar today none r)) (record { today = today; file = none }) (rw h refl) refl
+    either (λ g. g.state.file ≡ None) (first_row (rows calendar today None r)) (record { today = today; file = None }) (rw h refl) refl
 
 pub only_retire_takes : OnlyRetireTakes
 unfolding step_with
 only_retire_takes calendar today f r h =
-    either (λ g. is_held g.state.file ≡ true) (first_row (rows calendar today (some f) r)) (record { today = today; file = some f })
+    either (λ g. is_held g.state.file ≡ true) (first_row (rows calendar today (Some f) r)) (record { today = today; file = Some f })
     (rw h (by_test (λ (g : Given). is_held g.state.file ≡ true) (is kind_day_mark r) _ _ (λ e. refl) (λ e. refl))) refl
 
 -- of a day mark's rows only the last can hold
 mark_rows : (calendar : List ℕ) (today : ℕ) (file : Option File) (r : Record) → r.kind ≡ kind_day_mark
-    → first_row (rows calendar today file r) ≡ cond (not (eqb r.day (today + 1))) NotNextDay Accepted
+    → first_row (rows calendar today file r) ≡ cond (not (eqb r.day (today + 1))) (Err NotNextDay) (Ok tt)
 unfolding premise_rows order_rows
 mark_rows calendar today file r e = rw e
 
 mark_effect : (calendar : List ℕ) (today : ℕ) (file : Option File) (r : Record) → r.kind ≡ kind_day_mark
     → effect_on calendar today file r ≡ marked_or calendar r.day file
-mark_effect calendar today none r e = rw e refl
-mark_effect calendar today (some f) r e = rw e refl
+mark_effect calendar today None r e = rw e refl
+mark_effect calendar today (Some f) r e = rw e refl
 
 pub mark_step : MarkStep
 unfolding step_with number
@@ -167,7 +167,7 @@ mark_step calendar s r h =
     (go (eqb r.day (s.today + 1)))
   where
     go : (next : Bool)
-        → decide (cond (not next) NotNextDay Accepted) (marked_or calendar r.day s.file) s
-        ≡ cond next (marked_or calendar r.day s.file) (refused NotNextDay s)
+        → decide (cond (not next) (Err NotNextDay) (Ok tt)) (marked_or calendar r.day s.file) s
+        ≡ cond next (marked_or calendar r.day s.file) (refused (Err NotNextDay) s)
     go true = refl
     go false = refl

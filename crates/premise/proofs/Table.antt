@@ -3,7 +3,7 @@
 use Prim.Native.Nat.{ℕ}
 use mathlib.Core.Path.{◌≡◌, refl, sym, ap, ap₂, ◌∙◌}
 use mathlib.Core.List.{List, [], ◌∷◌, ◌++◌}
-use mathlib.Core.Option.{Option}
+use Rattle.std.specs.Prelude.{Option}
 use mathlib.Core.Bool.{Bool, true, false, cond, not, ◌||◌}
 use native.Mathlib.Omega.{arith}
 use lib.Dec.{eqb}
@@ -14,12 +14,12 @@ use Rattle.lists.proofs.TestLaws.{and_left, and_right, or_left, or_right}
 use Rattle.records.specs.declared.Record.{Record}
 use Rattle.records.specs.Records.{kind_create, kind_new_order}
 use Rattle.premise.specs.declared.File.{File}
-use Rattle.premise.specs.declared.Answer.{Answer}
-use Rattle.premise.specs.declared.Answer.TheVariants.{Accepted, ShortBuffer, NotWellKept, MalformedRecord, NoSuchPremise}
-use Rattle.premise.specs.declared.Answer.TheVariants.{OtherAgreement, PremiseHeld, BookFull, OrderOpen, ReferenceHeld, DayOutOfRange}
-use Rattle.premise.specs.declared.Answer.TheVariants.{NoSwitchDate}
-use Rattle.premise.specs.declared.Answer.TheVariants.{NotFirstIn, RetailerShareFull, StackFull, NoSuchOrder, StatusNotTaken}
-use Rattle.premise.specs.declared.Answer.TheVariants.{CounterNotAbove, OrderInWindow, NotNextDay}
+use Rattle.std.specs.Prelude.{Ok, Err}
+use Rattle.premise.specs.Refusals.{Answer}
+use Rattle.premise.specs.declared.Refusal.TheVariants.{ShortBuffer, NotWellKept, MalformedRecord, NoSuchPremise, OtherAgreement, PremiseHeld}
+use Rattle.premise.specs.declared.Refusal.TheVariants.{BookFull, OrderOpen, ReferenceHeld, DayOutOfRange, NoSwitchDate, NotFirstIn}
+use Rattle.premise.specs.declared.Refusal.TheVariants.{RetailerShareFull, StackFull, NoSuchOrder, StatusNotTaken, CounterNotAbove, OrderInWindow}
+use Rattle.premise.specs.declared.Refusal.TheVariants.{NotNextDay}
 use Rattle.premise.specs.Orders.{most_orders, most_of_one, is_open, open_of}
 use Rattle.premise.specs.Refusals.{Row, number, first_row, in_front_of, from_row, premise_rows, order_rows, rows}
 use Rattle.premise.specs.Laws.{AcceptedIsZero, FullIsSix, NoRow6, NeedsFile, CreateHeld, PremiseRowNumbers, OrderRowNumbers}
@@ -30,40 +30,40 @@ use Rattle.premise.specs.Laws.{BookAnswers, RoomFrom26, row_numbers}
 -- the answers in the order of their numbers, by which a number names its answer; 19 to 25 name none
 abbrev answers : List Answer
 answers =
-    (Accepted ∷ ShortBuffer ∷ NotWellKept ∷ MalformedRecord ∷ NoSuchPremise ∷ PremiseHeld ∷ BookFull ∷ OrderOpen
-    ∷ ReferenceHeld ∷ DayOutOfRange ∷ NoSwitchDate ∷ NotFirstIn ∷ StackFull ∷ NoSuchOrder ∷ StatusNotTaken ∷ NotNextDay
-    ∷ CounterNotAbove ∷ OrderInWindow ∷ OtherAgreement ∷ [])
-    ++ replicate 7 Accepted ++ (RetailerShareFull ∷ [])
+    (Ok tt ∷ Err ShortBuffer ∷ Err NotWellKept ∷ Err MalformedRecord ∷ Err NoSuchPremise ∷ Err PremiseHeld ∷ Err BookFull ∷ Err OrderOpen
+    ∷ Err ReferenceHeld ∷ Err DayOutOfRange ∷ Err NoSwitchDate ∷ Err NotFirstIn ∷ Err StackFull ∷ Err NoSuchOrder ∷ Err StatusNotTaken ∷ Err NotNextDay
+    ∷ Err CounterNotAbove ∷ Err OrderInWindow ∷ Err OtherAgreement ∷ [])
+    ++ replicate 7 (Ok tt) ++ (Err RetailerShareFull ∷ [])
 
-named_back : (answer : Answer) → get_or answers (number answer) Accepted ≡ answer
+named_back : (answer : Answer) → get_or answers (number answer) (Ok tt) ≡ answer
 unfolding number
-named_back Accepted = refl
-named_back ShortBuffer = refl
-named_back NotWellKept = refl
-named_back MalformedRecord = refl
-named_back NoSuchPremise = refl
-named_back OtherAgreement = refl
-named_back PremiseHeld = refl
-named_back BookFull = refl
-named_back OrderOpen = refl
-named_back ReferenceHeld = refl
-named_back DayOutOfRange = refl
-named_back NoSwitchDate = refl
-named_back NotFirstIn = refl
-named_back RetailerShareFull = refl
-named_back StackFull = refl
-named_back NoSuchOrder = refl
-named_back StatusNotTaken = refl
-named_back CounterNotAbove = refl
-named_back OrderInWindow = refl
-named_back NotNextDay = refl
+named_back (Ok tt) = refl
+named_back (Err ShortBuffer) = refl
+named_back (Err NotWellKept) = refl
+named_back (Err MalformedRecord) = refl
+named_back (Err NoSuchPremise) = refl
+named_back (Err OtherAgreement) = refl
+named_back (Err PremiseHeld) = refl
+named_back (Err BookFull) = refl
+named_back (Err OrderOpen) = refl
+named_back (Err ReferenceHeld) = refl
+named_back (Err DayOutOfRange) = refl
+named_back (Err NoSwitchDate) = refl
+named_back (Err NotFirstIn) = refl
+named_back (Err RetailerShareFull) = refl
+named_back (Err StackFull) = refl
+named_back (Err NoSuchOrder) = refl
+named_back (Err StatusNotTaken) = refl
+named_back (Err CounterNotAbove) = refl
+named_back (Err OrderInWindow) = refl
+named_back (Err NotNextDay) = refl
 
 pub same_number : (one other : Answer) → number one ≡ number other → one ≡ other
-same_number one other e = sym (named_back one) ∙ ap (λ (n : ℕ). get_or answers n Accepted) e ∙ named_back other
+same_number one other e = sym (named_back one) ∙ ap (λ (n : ℕ). get_or answers n (Ok tt)) e ∙ named_back other
 
 pub accepted_is_zero : AcceptedIsZero
 unfolding number
-accepted_is_zero answer = (same_number answer Accepted, λ e. rw e)
+accepted_is_zero answer = (same_number answer (Ok tt), λ e. rw e)
 
 pub premise_row_numbers : PremiseRowNumbers
 unfolding number premise_rows
@@ -79,7 +79,7 @@ book_answers = refl
 
 pub full_is_six : FullIsSix
 unfolding number
-full_is_six answer = (same_number answer BookFull, λ e. rw e)
+full_is_six answer = (same_number answer (Err BookFull), λ e. rw e)
 
 -- ---- the rows of the one-premise rules
 abbrev not_six : Row → Bool

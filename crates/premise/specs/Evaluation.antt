@@ -2,7 +2,7 @@
 -- on scheduled days, `near`: at the end `evaluated` hands in document 01's.
 use Rattle.std.specs.Prelude.{ℕ, List, [], ◌∷◌, Bool, cond, not, ◌&&◌, ◌||◌, eqb, leb, ltb}
 use Rattle.lists.specs.Search.{any_of, place_of, is_at, or_else}
-use Rattle.lists.specs.declared.Found.{Found}
+use Rattle.std.specs.Prelude.{Option}
 use Rattle.days.specs.Window.{in_window}
 use Rattle.records.specs.Notices.{tdsp}
 use Rattle.records.specs.Records.{move_in, move_out, mass_transition_drop}
@@ -26,7 +26,7 @@ abbrev pub contends_for : (ℕ → Bool) → ℕ → Order → Bool
 contends_for near day o = contends near o && eqb o.scheduled day
 
 -- The oldest Scheduled one is kept, or the oldest if none is Scheduled.
-unfoldable pub switch_of_day : (ℕ → Bool) → List Order → ℕ → Found
+unfoldable pub switch_of_day : (ℕ → Bool) → List Order → ℕ → Option ℕ
 switch_of_day near os day =
     or_else (place_of (λ (o : Order). contends_for near day o && has_status scheduled o) os) (place_of (contends_for near day) os)
 

@@ -1,15 +1,16 @@
 -- What the layer above relies on about one premise, as statements; proofs/ proves each. The book opens none of the rules themselves. What
 -- every step leaves and gives is stated in `premise_laws`.
 use Rattle.std.specs.Prelude.{ℕ, ◌+◌, ◌<◌, ◌≡◌, ◌↔◌, List, [], ◌∷◌, ◌++◌, map, true, false, cond, eqb}
-use Rattle.std.proofs.Math.Option.{Option, none, some}
+use Rattle.std.specs.Prelude.{Option, Some, None}
 use Rattle.lists.specs.Search.{any_of, count_of}
 use Rattle.records.specs.declared.Record.{Record}
 use Rattle.records.specs.Records.{kind_create, kind_retire, kind_new_order, kind_day_mark}
 use Rattle.premise.specs.declared.Order.{Order}
 use Rattle.premise.specs.declared.File.{File}
-use Rattle.premise.specs.declared.Answer.{Answer}
-use Rattle.premise.specs.declared.Answer.TheVariants.{Accepted, ShortBuffer, NotWellKept, MalformedRecord, NoSuchPremise}
-use Rattle.premise.specs.declared.Answer.TheVariants.{PremiseHeld, BookFull, NotNextDay}
+use Rattle.std.specs.Prelude.{Ok, Err}
+use Rattle.premise.specs.Refusals.{Answer}
+use Rattle.premise.specs.declared.Refusal.TheVariants.{ShortBuffer, NotWellKept, MalformedRecord, NoSuchPremise, PremiseHeld, BookFull}
+use Rattle.premise.specs.declared.Refusal.TheVariants.{NotNextDay}
 use Rattle.premise.specs.Orders.{most_orders, most_of_one, is_open, open_of, blank_file}
 use Rattle.premise.specs.Steps.{is}
 use Rattle.premise.specs.WellKept.{file_kept, file_blank, FileKept}
@@ -54,7 +55,7 @@ RefusalIs =
 
 -- of all answers only acceptance has the number 0
 abbrev pub AcceptedIsZero : Type 0
-AcceptedIsZero = (answer : Answer) → (number answer ≡ 0) ↔ (answer ≡ Accepted)
+AcceptedIsZero = (answer : Answer) → (number answer ≡ 0) ↔ (answer ≡ Ok tt)
 
 -- The rows' numbers in the table's order: those of the one-premise rules ..
 abbrev pub row_numbers : List Row → List ℕ
@@ -70,7 +71,7 @@ OrderRowNumbers =
 
 -- .. and of the answers that the book's own rows give.
 abbrev pub BookAnswers : Type 0
-BookAnswers = map number (ShortBuffer ∷ NotWellKept ∷ MalformedRecord ∷ BookFull ∷ []) ≡ 1 ∷ 2 ∷ 3 ∷ 6 ∷ []
+BookAnswers = map number (Err ShortBuffer ∷ Err NotWellKept ∷ Err MalformedRecord ∷ Err BookFull ∷ []) ≡ 1 ∷ 2 ∷ 3 ∷ 6 ∷ []
 
 -- From 26 on none holds for a new order where fewer than 8 orders are open, and fewer than 4 of them its Q's.
 abbrev pub RoomFrom26 : Type 0
@@ -81,22 +82,22 @@ RoomFrom26 =
 
 -- of all answers only a full book has the number 6, and the one-premise rules have no such row
 abbrev pub FullIsSix : Type 0
-FullIsSix = (answer : Answer) → (number answer ≡ 6) ↔ (answer ≡ BookFull)
+FullIsSix = (answer : Answer) → (number answer ≡ 6) ↔ (answer ≡ Err BookFull)
 
 abbrev pub NoRow6 : Type 0
-NoRow6 = (calendar : List ℕ) (today : ℕ) (file : Option File) (r : Record) → first_row (rows calendar today file r) ≡ BookFull → ⊥
+NoRow6 = (calendar : List ℕ) (today : ℕ) (file : Option File) (r : Record) → first_row (rows calendar today file r) ≡ Err BookFull → ⊥
 
 -- rows 4, 18 and 5 do not hold for a create of a premise without a file
 abbrev pub CreatePasses : Type 0
-CreatePasses = (r : Record) (more : List Row) → is kind_create r ≡ true → first_row (premise_rows none r ++ more) ≡ first_row more
+CreatePasses = (r : Record) (more : List Row) → is kind_create r ≡ true → first_row (premise_rows None r ++ more) ≡ first_row more
 
 -- for a record that needs a premise, of one without a file, row 4 is the first that holds, whatever rows come after it
 abbrev pub NeedsFile : Type 0
-NeedsFile = (r : Record) (more : List Row) → needs_premise r ≡ true → first_row (premise_rows none r ++ more) ≡ NoSuchPremise
+NeedsFile = (r : Record) (more : List Row) → needs_premise r ≡ true → first_row (premise_rows None r ++ more) ≡ Err NoSuchPremise
 
 -- for a create of a premise with a file row 5 is the first that holds, whatever rows come after it
 abbrev pub CreateHeld : Type 0
-CreateHeld = (f : File) (r : Record) (more : List Row) → is kind_create r ≡ true → first_row (premise_rows (some f) r ++ more) ≡ PremiseHeld
+CreateHeld = (f : File) (r : Record) (more : List Row) → is kind_create r ≡ true → first_row (premise_rows (Some f) r ++ more) ≡ Err PremiseHeld
 
 -- ---- the day
 -- only a day mark changes T
@@ -105,22 +106,22 @@ OnlyMarksMove = (calendar : List ℕ) (s : State) (r : Record) → is kind_day_m
 
 -- a day mark on a file or none
 abbrev pub marked_or : List ℕ → ℕ → Option File → Given
-marked_or calendar day none = accepted [] (record { today = day; file = none })
-marked_or calendar day (some f) = leaving day (marked calendar day f)
+marked_or calendar day None = accepted [] (record { today = day; file = None })
+marked_or calendar day (Some f) = leaving day (marked calendar day f)
 
 -- a day mark is taken on the day after T, whatever the file, and refused with 15 on any other
 abbrev pub MarkStep : Type 0
 MarkStep =
     (calendar : List ℕ) (s : State) (r : Record) → is kind_day_mark r ≡ true
-    → step calendar s r ≡ cond (eqb r.day (s.today + 1)) (marked_or calendar r.day s.file) (refused NotNextDay s)
+    → step calendar s r ≡ cond (eqb r.day (s.today + 1)) (marked_or calendar r.day s.file) (refused (Err NotNextDay) s)
 
 -- ---- the file
 -- only a create makes a file
 abbrev pub OnlyCreateMakes : Type 0
 OnlyCreateMakes = (calendar : List ℕ) (today : ℕ) (r : Record) → is kind_create r ≡ false
-    → (step calendar (record { today = today; file = none }) r).state.file ≡ none
+    → (step calendar (record { today = today; file = None }) r).state.file ≡ None
 
 -- only a retire takes a file away
 abbrev pub OnlyRetireTakes : Type 0
 OnlyRetireTakes = (calendar : List ℕ) (today : ℕ) (f : File) (r : Record) → is kind_retire r ≡ false
-    → is_held (step calendar (record { today = today; file = some f }) r).state.file ≡ true
+    → is_held (step calendar (record { today = today; file = Some f }) r).state.file ≡ true

@@ -1,16 +1,14 @@
 -- Document 01, "The book": the one-premise rules. The same steps over T and one file or none, fed the calendar and, in tape order, the
 -- premise's own records and the day marks, nothing from the book.
 use Rattle.std.specs.Prelude.{ℕ, min, List, [], ◌∷◌, ◌++◌, cond, eqb}
-use Rattle.std.proofs.Math.Option.{Option, none, some}
+use Rattle.std.specs.Prelude.{Option, Some, None}
 use Rattle.days.specs.Days.{last_day}
 use Rattle.records.specs.declared.Record.{Record}
 use Rattle.records.specs.declared.Notice.{Notice}
 use Rattle.records.specs.Records.{kind_create, kind_retire, kind_new_order, kind_day_mark, kind_agreement}
 use Rattle.premise.specs.declared.File.{File}
-use Rattle.premise.specs.declared.Answer.{Answer}
-use Rattle.premise.specs.declared.Answer.TheVariants.{Accepted}
-use Rattle.lists.specs.declared.Found.{Found}
-use Rattle.lists.specs.declared.Found.TheVariants.{At, Nothing}
+use Rattle.std.specs.Prelude.{Ok}
+use Rattle.premise.specs.Refusals.{Answer}
 use Rattle.premise.specs.Orders.{held, kept_width}
 use Rattle.premise.specs.Passes.{Effect, on_file}
 use Rattle.premise.specs.Steps.{is, new_file, ordered, named, order_at, changed, agreed}
@@ -31,7 +29,7 @@ pub record Given : Type 0 where
 
 -- They start with the start day (4,095 if it is above) and no file.
 abbrev pub start_state : ℕ → State
-start_state start = record { today = min start last_day; file = none }
+start_state start = record { today = min start last_day; file = None }
 
 -- something done to a file, and then another thing: the notices of both
 abbrev pub followed : Effect → (File → Effect) → Effect
@@ -45,9 +43,9 @@ abbrev pub marked : List ℕ → ℕ → File → Effect
 marked = marked_with kept_width
 
 -- kinds 4 to 9 and 11 on the order that they name; without one they would not have been accepted
-abbrev pub at_place : List ℕ → ℕ → File → Record → Found → Effect
-at_place calendar today f r (At i) = changed calendar today f r i (order_at (held f) (At i))
-at_place calendar today f r Nothing = record { file = f; notices = [] }
+abbrev pub at_place : List ℕ → ℕ → File → Record → Option ℕ → Effect
+at_place calendar today f r (Some i) = changed calendar today f r i (order_at (held f) (Some i))
+at_place calendar today f r None = record { file = f; notices = [] }
 
 -- an accepted record 3 to 9, or 11, on its file: the steps of its kind, then the evaluation
 unfoldable pub stepped_with : (File → ℕ) → List ℕ → ℕ → File → Record → Effect
@@ -67,7 +65,7 @@ record_done = record_done_with kept_width
 
 -- accepted, with the notices of its kind's steps
 abbrev pub accepted : List Notice → State → Given
-accepted notices after = record { answer = Accepted; notices = notices; state = after }
+accepted notices after = record { answer = Ok tt; notices = notices; state = after }
 
 -- refused: it changes nothing and gives no notice
 abbrev pub refused : Answer → State → Given
@@ -75,25 +73,25 @@ refused answer s = record { answer = answer; notices = []; state = s }
 
 -- the state in which a file is left
 abbrev pub leaving : ℕ → Effect → Given
-leaving today e = accepted e.notices (record { today = today; file = some e.file })
+leaving today e = accepted e.notices (record { today = today; file = Some e.file })
 
 -- What a record that meets no row does. Kind 1 makes the file ..
 abbrev pub effect_on_none : ℕ → Record → Given
 effect_on_none today r =
-    cond (is kind_create r) (accepted [] (record { today = today; file = some (new_file r) }))
-    (accepted [] (record { today = cond (is kind_day_mark r) r.day today; file = none }))
+    cond (is kind_create r) (accepted [] (record { today = today; file = Some (new_file r) }))
+    (accepted [] (record { today = cond (is kind_day_mark r) r.day today; file = None }))
 
 -- .. kind 2 takes it away, kinds 3 to 9 end with its evaluation, and a day mark sets T and then, if there is a file, does its clock and
 -- evaluation. Document 02, of kind 11: "it ends with the file's evaluation"; of kind 12: "the record runs no evaluation".
 abbrev pub effect_on_file : (File → ℕ) → List ℕ → ℕ → File → Record → Given
 effect_on_file width calendar today f r =
-    cond (is kind_retire r) (accepted [] (record { today = today; file = none }))
+    cond (is kind_retire r) (accepted [] (record { today = today; file = None }))
     (cond (is kind_day_mark r) (leaving r.day (marked_with width calendar r.day f))
     (leaving today (record_done_with width calendar today f r)))
 
 abbrev pub effect_on_with : (File → ℕ) → List ℕ → ℕ → Option File → Record → Given
-effect_on_with width calendar today none r = effect_on_none today r
-effect_on_with width calendar today (some f) r = effect_on_file width calendar today f r
+effect_on_with width calendar today None r = effect_on_none today r
+effect_on_with width calendar today (Some f) r = effect_on_file width calendar today f r
 
 abbrev pub effect_on : List ℕ → ℕ → Option File → Record → Given
 effect_on = effect_on_with kept_width

@@ -2,10 +2,8 @@
 -- with 18 of document 02, change 3, between them, and 7 to 15, with 26 of its change 12 between 11 and 12, and 16 and 17 of its change 1
 -- after 14. Row 3 goes by the record's bytes alone (`reading`); rows 1, 2 and 6 are the book's.
 use Rattle.std.specs.Prelude.{ℕ, ◌+◌, List, [], ◌∷◌, ◌++◌, Bool, true, false, cond, not, ◌&&◌, ◌||◌, eqb, leb, ltb}
-use Rattle.std.proofs.Math.Option.{Option, none, some}
+use Rattle.std.specs.Prelude.{Option, Some, None}
 use Rattle.lists.specs.Search.{any_of, count_of}
-use Rattle.lists.specs.declared.Found.{Found}
-use Rattle.lists.specs.declared.Found.TheVariants.{At, Nothing}
 use Rattle.days.specs.Days.{no_day, switch_date}
 use Rattle.days.specs.Window.{window_width, in_window}
 use Rattle.records.specs.declared.Record.{Record}
@@ -13,50 +11,54 @@ use Rattle.records.specs.Records.{kind_create, kind_retire, kind_new_order, kind
 use Rattle.records.specs.Records.{kind_date_change, kind_agreement, standard_switch, self_selected_switch, delete, counter_of}
 use Rattle.premise.specs.declared.Order.{Order}
 use Rattle.premise.specs.declared.File.{File}
-use Rattle.premise.specs.declared.Answer.{Answer}
-use Rattle.premise.specs.declared.Answer.TheVariants.{Accepted, ShortBuffer, NotWellKept, MalformedRecord, NoSuchPremise}
-use Rattle.premise.specs.declared.Answer.TheVariants.{OtherAgreement, PremiseHeld, BookFull, OrderOpen, ReferenceHeld, DayOutOfRange}
-use Rattle.premise.specs.declared.Answer.TheVariants.{NoSwitchDate}
-use Rattle.premise.specs.declared.Answer.TheVariants.{NotFirstIn, RetailerShareFull, StackFull, NoSuchOrder, StatusNotTaken}
-use Rattle.premise.specs.declared.Answer.TheVariants.{CounterNotAbove, OrderInWindow, NotNextDay}
+use Rattle.std.specs.Prelude.{Result, Ok, Err}
+use Rattle.premise.specs.declared.Refusal.{Refusal}
+use Rattle.premise.specs.declared.Refusal.TheVariants.{ShortBuffer, NotWellKept, MalformedRecord, NoSuchPremise, OtherAgreement, PremiseHeld}
+use Rattle.premise.specs.declared.Refusal.TheVariants.{BookFull, OrderOpen, ReferenceHeld, DayOutOfRange, NoSwitchDate, NotFirstIn}
+use Rattle.premise.specs.declared.Refusal.TheVariants.{RetailerShareFull, StackFull, NoSuchOrder, StatusNotTaken, CounterNotAbove, OrderInWindow}
+use Rattle.premise.specs.declared.Refusal.TheVariants.{NotNextDay}
 use Rattle.premise.specs.Orders.{most_orders, most_of_one, scheduled, has_status, is_open, open_of, held, kept_width}
 use Rattle.premise.specs.Steps.{is, requested_day, named, order_at, taken}
 use Rattle.premise.specs.FirstIn.{not_first_in}
 
+-- What a call answers: acceptance, or the row that refuses.
+abbrev pub Answer : Type 0
+Answer = Result (Unit {0}) Refusal
+
 -- The number returned, for every answer.
 unfoldable pub number : Answer → ℕ
-number Accepted = 0
-number ShortBuffer = 1
-number NotWellKept = 2
-number MalformedRecord = 3
-number NoSuchPremise = 4
-number OtherAgreement = 18
-number PremiseHeld = 5
-number BookFull = 6
-number OrderOpen = 7
-number ReferenceHeld = 8
-number DayOutOfRange = 9
-number NoSwitchDate = 10
-number NotFirstIn = 11
-number RetailerShareFull = 26
-number StackFull = 12
-number NoSuchOrder = 13
-number StatusNotTaken = 14
-number CounterNotAbove = 16
-number OrderInWindow = 17
-number NotNextDay = 15
+number (Ok done) = 0
+number (Err ShortBuffer) = 1
+number (Err NotWellKept) = 2
+number (Err MalformedRecord) = 3
+number (Err NoSuchPremise) = 4
+number (Err OtherAgreement) = 18
+number (Err PremiseHeld) = 5
+number (Err BookFull) = 6
+number (Err OrderOpen) = 7
+number (Err ReferenceHeld) = 8
+number (Err DayOutOfRange) = 9
+number (Err NoSwitchDate) = 10
+number (Err NotFirstIn) = 11
+number (Err RetailerShareFull) = 26
+number (Err StackFull) = 12
+number (Err NoSuchOrder) = 13
+number (Err StatusNotTaken) = 14
+number (Err CounterNotAbove) = 16
+number (Err OrderInWindow) = 17
+number (Err NotNextDay) = 15
 
 -- a row: what is returned, and when
 pub record Row : Type 0 where
   pub answer : Answer
   pub when : Bool
 
-abbrev pub row : Answer → Bool → Row
-row answer when = record { answer = answer; when = when }
+abbrev pub row : Refusal → Bool → Row
+row refusal when = record { answer = Err refusal; when = when }
 
 -- the first row whose condition holds; accepted if none does
 abbrev pub first_row : List Row → Answer
-first_row [] = Accepted
+first_row [] = Ok tt
 first_row (r ∷ rs) = cond r.when r.answer (first_row rs)
 
 -- the rows of a table in front of the one with a number; and from it on
@@ -99,22 +101,22 @@ abbrev pub too_late : ℕ → List ℕ → ℕ → Record → Order → Bool
 too_late width calendar today r o = is kind_date_change r && has_status scheduled o && in_window calendar width today o.scheduled
 
 abbrev pub is_held : Option File → Bool
-is_held none = false
-is_held (some f) = true
+is_held None = false
+is_held (Some f) = true
 
 -- the orders of a file; none where there is no file
 abbrev pub orders_of : Option File → List Order
-orders_of none = []
-orders_of (some f) = held f
+orders_of None = []
+orders_of (Some f) = held f
 
-abbrev pub is_nothing : Found → Bool
-is_nothing (At i) = false
-is_nothing Nothing = true
+abbrev pub is_nothing : Option ℕ → Bool
+is_nothing (Some i) = false
+is_nothing None = true
 
 -- C, 0 where there is no file
 abbrev pub agreement_of : Option File → ℕ
-agreement_of none = 0
-agreement_of (some f) = f.agreement
+agreement_of None = 0
+agreement_of (Some f) = f.agreement
 
 -- Rows 4 and 5. Document 02, change 3: "18 when a delete names a retailer other than C, after 4; it is among the one-premise rows."
 unfoldable pub premise_rows : Option File → Record → List Row
@@ -145,8 +147,8 @@ order_rows width calendar today os r =
 
 -- the width of a file or none: where there is no file, no row asks for it
 abbrev pub width_in : (File → ℕ) → Option File → ℕ
-width_in width none = window_width
-width_in width (some f) = width f
+width_in width None = window_width
+width_in width (Some f) = width f
 
 -- rows 7 to 15 of a file or none
 abbrev pub file_rows_with : (File → ℕ) → List ℕ → ℕ → Option File → Record → List Row

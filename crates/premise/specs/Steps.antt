@@ -2,8 +2,7 @@
 -- and kind 12 of document 02, which runs none.
 use Rattle.std.specs.Prelude.{ℕ, List, [], ◌∷◌, ◌++◌, Bool, cond, not, ◌&&◌, ◌||◌, eqb, leb, length, set, get_or, replicate}
 use Rattle.lists.specs.Search.{place_of, without_first}
-use Rattle.lists.specs.declared.Found.{Found}
-use Rattle.lists.specs.declared.Found.TheVariants.{At, Nothing}
+use Rattle.std.specs.Prelude.{Option, Some, None}
 use Rattle.days.specs.Days.{no_day, is_day, is_business_day, switch_date}
 use Rattle.days.specs.Window.{window_width}
 use Rattle.records.specs.declared.Record.{Record}
@@ -78,13 +77,13 @@ ordered calendar today f r =
     }
 
 -- Kinds 4 to 9 and 11 name an order by its reference: its place among a file's orders.
-abbrev pub named : Record → List Order → Found
+abbrev pub named : Record → List Order → Option ℕ
 named r os = place_of (λ (o : Order). eqb o.reference r.reference) os
 
 -- the order found, or a blank one
-abbrev pub order_at : List Order → Found → Order
-order_at os (At i) = get_or os i blank
-order_at os Nothing = blank
+abbrev pub order_at : List Order → Option ℕ → Order
+order_at os (Some i) = get_or os i blank
+order_at os None = blank
 
 -- From which statuses, and for which K, each of these kinds is taken. Document 02, change 1, of kind 11: "It is for move in and move out in
 -- status 1 or 3".

@@ -13,7 +13,7 @@ pub const MOST_WAITED: u8 = 21;
 
 pub const MOST_PENDING: u8 = 7;
 
-// The retailer of a premise that is de-energized.
+// The retailer of a premise that is de-energized. A number, as in a record and in a file, of which a damaged book may have any.
 pub const NOBODY: u64 = 0;
 
 // The statuses of an order. They are numbers with names, and no enum, since a damaged book can hold any number.
@@ -55,11 +55,12 @@ pub struct Order {
     pub status: u8,
     pub waited: BusinessDays,
     pub pending: CalendarDays,
-    // whether the retailer that loses the premise has been told, 0 or 1
+    // whether the retailer that loses the premise has been told, 0 or 1; a number, since in a damaged book it can be another
     pub told: u8,
 }
 
-// A premise's file. The first `count` places of `orders` hold its orders, oldest first; the others are zero.
+// A premise's file. The first `count` places of `orders` hold its orders, oldest first; the others are zero. Eight places and a count, no
+// list: nothing of the book is on a heap, and of a damaged one every place is looked at.
 #[derive(Clone, Copy)]
 pub struct File {
     pub premise: u64,
@@ -71,17 +72,29 @@ pub struct File {
     pub since: u16,
     // how many business days before its scheduled day an order is in window
     pub window: u8,
-    // 1 where the retailer came by a move in that was read on the day since which it holds, else 0
+    // 1 where the retailer came by a move in that was read on the day since which it holds, else 0; a number for the same reason
     pub entered: u8,
     pub count: usize,
     pub orders: [Order; 8],
 }
 
-// What a call answers: a name for each row of document 01's table of refusals, with the rows of document 02's changes 1, 3 and 12, and
-// one for acceptance.
-#[derive(Clone, Copy)]
-pub enum Answer {
-    Accepted,
+impl File {
+    ghost use Rattle.std.specs.Prelude.{◌≡◌};
+    ghost use Rattle.premise.specs.Orders.{held};
+    ghost use Rattle.premise.specs.WellKept.{Tidy};
+
+    // Its orders, oldest first.
+    pub fn held(&self) -> &[Order]
+        requires { Tidy self.now }
+        ensures { result.now ≡ held self.now }
+    {
+        &self.orders[..self.count]
+    }
+}
+
+// Why a call is refused: a name for each row of document 01's table of refusals, with the rows of document 02's changes 1, 3 and 12.
+#[derive(Debug, Clone, Copy, PartialEq, Eq)]
+pub enum Refusal {
     ShortBuffer,
     NotWellKept,
     MalformedRecord,
@@ -103,24 +116,5 @@ pub enum Answer {
     NotNextDay,
 }
 
-// An order after a step, and how many notices stand in the buffer then.
-#[derive(Clone, Copy)]
-pub struct OrderAfter {
-    pub order: Order,
-    pub sent: usize,
-}
-
-// A file after a pass or a day mark, and how many notices stand in the buffer then.
-#[derive(Clone, Copy)]
-pub struct FileAfter {
-    pub file: File,
-    pub sent: usize,
-}
-
-// What a record that leaves its premise's file gives: the answer, how many notices stand in the buffer, and the file afterwards.
-#[derive(Clone, Copy)]
-pub struct PremiseAfter {
-    pub answer: Answer,
-    pub sent: usize,
-    pub file: File,
-}
+// What a call answers: acceptance, or the row that refuses.
+pub type Answer = Result<(), Refusal>;

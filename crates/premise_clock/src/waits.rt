@@ -13,34 +13,25 @@ const SHORT_REVIEW: u8 = 3;
 pub fn grow(waited: BusinessDays, counts: bool) -> BusinessDays
     ensures { result.0 ≡ cond counts (min (waited.0 + 1) most_waited) waited.0 }
 {
-    if counts {
-        if waited.0 < MOST_WAITED {
-            return BusinessDays(waited.0 + 1);
-        }
-        return BusinessDays(MOST_WAITED);
+    if !counts {
+        waited
+    } else if waited.0 < MOST_WAITED {
+        BusinessDays(waited.0 + 1)
+    } else {
+        BusinessDays(MOST_WAITED)
     }
-    waited
 }
 
 // Whether a review ends: after 20 business days, or after 3 once the requested day has come.
 pub fn review_ends(waited: BusinessDays, requested: u16, today: u16) -> bool
     ensures { result ≡ review_ends waited.0 requested today }
 {
-    if LONG_REVIEW <= waited.0 {
-        return true;
-    }
-    if waited.0 < SHORT_REVIEW {
-        return false;
-    }
-    requested <= today
+    LONG_REVIEW <= waited.0 || (SHORT_REVIEW <= waited.0 && requested <= today)
 }
 
 // Whether a business day counts towards the wait for a permit: not before the requested day.
 pub fn counts(business: bool, requested: u16, today: u16) -> bool
     ensures { result ≡ (business && leb requested today) }
 {
-    if business {
-        return requested <= today;
-    }
-    false
+    business && requested <= today
 }

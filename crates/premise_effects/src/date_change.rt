@@ -1,10 +1,10 @@
 // What a date change (kind 11) does to the order that it names, with its notices: document 02, change 1.
 ghost use Rattle.std.specs.Prelude.{◌≡◌};
 ghost use Rattle.premise.specs.Steps.{redated, on_date_change};
-ghost use Rattle.premise.specs.Promises.{Room, DoneToOrder};
+ghost use Rattle.premise_notices.specs.Outboxes.{RoomIn, DoneToOrder};
 
-use premise::{File, Order, OrderAfter};
-use premise_notices::{CODE_DATE_CHANGE, tell};
+use premise::{File, Order};
+use premise_notices::{NoticeCode, Outbox};
 use records::Record;
 
 // The order with its new date: In Review again, without a scheduled day, its wait begun today, nobody told of it, the counter kept.
@@ -26,37 +26,21 @@ fn with_date(calendar: &[u8], today: u16, r: Record, o: Order) -> Order
 pub fn change_date(
     calendar: &[u8],
     today: u16,
-    file: File,
+    file: &File,
     r: Record,
     o: Order,
-    standing: usize,
-    buffer: &mut [u8],
-) -> OrderAfter
-    requires { Room standing (on_date_change calendar.now today file r o).notices buffer.old }
-    ensures { DoneToOrder (on_date_change calendar.now today file r o)
-        standing result buffer.old buffer.new }
+    out: &mut Outbox,
+) -> Order
+    requires { RoomIn out.old (on_date_change calendar.now today file.now r o).notices }
+    ensures { DoneToOrder (on_date_change calendar.now today file.now r o) result out.old out.new }
 {
     let t = with_date(calendar, today, r, o);
-    let s = tell(
-        CODE_DATE_CHANGE,
-        file.premise,
-        records::TDSP,
-        t,
-        standing,
-        buffer,
-    );
-    if !((o.kind == records::order_kind::MOVE_IN)
+    out.tell(NoticeCode::DateChange, file.premise, records::TDSP, t);
+    if (o.kind == records::order_kind::MOVE_IN)
         & (o.told == 1)
-        & (file.retailer != premise::NOBODY))
+        & (file.retailer != premise::NOBODY)
     {
-        return s;
+        out.tell(NoticeCode::DateChange, file.premise, file.retailer, t);
     }
-    tell(
-        CODE_DATE_CHANGE,
-        file.premise,
-        file.retailer,
-        t,
-        s.sent,
-        buffer,
-    )
+    t
 }

@@ -3,26 +3,24 @@ ghost use Rattle.std.specs.Prelude.{◌≡◌, cond, eqb};
 ghost use Rattle.records.specs.Records.{move_out};
 ghost use Rattle.premise.specs.Orders.{with_status, with_pending};
 ghost use Rattle.premise.specs.Steps.{on_order};
-ghost use Rattle.premise.specs.Promises.{Room, DoneToOrder};
+ghost use Rattle.premise_notices.specs.Codes.{code_number};
+ghost use Rattle.premise_notices.specs.Outboxes.{RoomIn, DoneToOrder};
 ghost use Rattle.premise_effects.specs.ByKind.{LeftBy, as_read, replied_status, code_of, addressee_of};
 
 use premise::{
     BusinessDays, CANCEL_PENDING, CANCELLED, COMPLETE, CalendarDays, File, IN_REVIEW, Order,
-    OrderAfter, PERMIT_PENDING, SCHEDULED, UNEXECUTABLE,
+    PERMIT_PENDING, SCHEDULED, UNEXECUTABLE,
 };
-use premise_notices::{
-    CODE_CANCEL, CODE_PERMIT, CODE_REJECT, CODE_SCHEDULED, CODE_UNEXECUTABLE, tell,
-};
+use premise_notices::{NoticeCode, Outbox};
 use records::{Record, record_kind};
 
 // An order in another status, with no days of Cancel Pending: how kinds 4, 6, 8 and 9 leave it.
 fn in_status(o: Order, status: u8) -> Order
     ensures { result ≡ with_pending 0 (with_status status o) }
 {
-    let none = CalendarDays(0);
     let mut t = o;
     t.status = status;
-    t.pending = none;
+    t.pending = CalendarDays(0);
     t
 }
 
@@ -65,10 +63,9 @@ fn left(r: Record, o: Order) -> Order
             t
         }
         record_kind::PERMIT => {
-            let none = BusinessDays(0);
             let mut t = o;
             t.status = PERMIT_PENDING;
-            t.waited = none;
+            t.waited = BusinessDays(0);
             t
         }
         record_kind::UNEXECUTABLE => in_status(o, UNEXECUTABLE),
@@ -79,21 +76,16 @@ fn left(r: Record, o: Order) -> Order
 }
 
 // The code of a record's notice. A read has none.
-fn code_of(kind: u8, detail: u8) -> u8
-    ensures { result ≡ code_of kind detail }
+fn code_of(kind: u8, detail: u8) -> NoticeCode
+    ensures { code_number result ≡ code_of kind detail }
 {
     match kind {
-        record_kind::SCHEDULED => CODE_SCHEDULED,
-        record_kind::PERMIT => CODE_PERMIT,
-        record_kind::UNEXECUTABLE => CODE_UNEXECUTABLE,
-        record_kind::CANCEL => CODE_CANCEL,
-        _ => {
-            if detail == records::REPLY_ACCEPT {
-                CODE_CANCEL
-            } else {
-                CODE_REJECT
-            }
-        }
+        record_kind::SCHEDULED => NoticeCode::Scheduled,
+        record_kind::PERMIT => NoticeCode::Permit,
+        record_kind::UNEXECUTABLE => NoticeCode::Unexecutable,
+        record_kind::CANCEL => NoticeCode::Cancel,
+        _ if detail == records::REPLY_ACCEPT => NoticeCode::Cancel,
+        _ => NoticeCode::Reject,
     }
 }
 
@@ -121,30 +113,21 @@ fn told_retailer(kind: u8, retailer: u64, agreement: u64) -> u64
 
 // What a record of kinds 4 to 9 does to the order that it names: the order as the record leaves it, and its notice. Of an unexecutable
 // order that has been told of, the retailer that heard of it hears too.
-pub fn change_status(
-    file: File,
-    r: Record,
-    o: Order,
-    standing: usize,
-    buffer: &mut [u8],
-) -> OrderAfter
-    requires { Room standing (on_order file r o).notices buffer.old }
-    ensures { DoneToOrder (on_order file r o) standing result buffer.old buffer.new }
+pub fn change_status(file: &File, r: Record, o: Order, out: &mut Outbox) -> Order
+    requires { RoomIn out.old (on_order file.now r o).notices }
+    ensures { DoneToOrder (on_order file.now r o) result out.old out.new }
 {
     let kind = r.kind;
     let t = left(r, o);
     if kind == record_kind::READ {
-        return OrderAfter {
-            order: t,
-            sent: standing,
-        };
+        return t;
     }
     let code = code_of(kind, r.detail);
     let addressee = addressee_of(kind, o.submitter);
     let told = told_retailer(o.kind, file.retailer, file.agreement);
-    let s = tell(code, file.premise, addressee, t, standing, buffer);
-    if !((kind == record_kind::UNEXECUTABLE) & (o.told == 1) & (told != premise::NOBODY)) {
-        return s;
+    out.tell(code, file.premise, addressee, t);
+    if (kind == record_kind::UNEXECUTABLE) & (o.told == 1) & (told != premise::NOBODY) {
+        out.tell(code, file.premise, told, t);
     }
-    tell(code, file.premise, told, t, s.sent, buffer)
+    t
 }

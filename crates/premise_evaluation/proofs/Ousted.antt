@@ -1,10 +1,11 @@
--- The evaluation changes the order at a place if it is due or another order ousts it. Assumes nothing.
+-- The evaluation changes the order at a place if it is due or another order ousts it; a day mark changes a file if the clock or the
+-- evaluation changes one of its orders. Assumes nothing.
 use Prim.Native.Nat.{ℕ, ◌<◌}
-use mathlib.Core.Path.{◌≡◌, sym, ap, ap₂, subst⁻¹, ◌∙◌}
+use mathlib.Core.Path.{◌≡◌, refl, sym, ap, ap₂, ◌∙◌}
+use native.Mathlib.Omega.{arith}
 use mathlib.Core.List.{List}
 use mathlib.Core.Bool.{Bool, true, false, ◌&&◌, ◌||◌}
 use lib.ListN.{length, get_or}
-use lib.Seq.{get_or-take}
 use Rattle.lists.specs.Search.{any_of}
 use Rattle.lists.proofs.TestLaws.{or_left, or_right}
 use Rattle.days.specs.Window.{up_to}
@@ -12,11 +13,9 @@ use Rattle.premise.specs.declared.Order.{Order}
 use Rattle.premise.specs.declared.File.{File}
 use Rattle.premise.specs.Orders.{blank, held}
 use Rattle.premise.specs.Evaluation.{contends, contends_for, gives_way, switch_on, is_displaced, overtakes, is_overtaken, is_due}
-use Rattle.premise.specs.WellKept.{Tidy}
-use Rattle.premise.proofs.KeptFiles.{length-held}
-use Rattle.premise_laws.specs.Changes.{changes_order, any_at}
+use Rattle.premise_laws.specs.Changes.{clock_changes, changes_order, any_at, mark_changes_file}
 use Rattle.premise_evaluation.specs.Ousting.{is_near_drop, awaits_permit, is_preferred, may_be_ousted, ousts}
-use Rattle.premise_evaluation.proofs.PlaceTests.{any_none, any_or, any_and, any_plain}
+use Rattle.premise_evaluation.proofs.PlaceTests.{any_none, any_or, any_and, any_plain, any_agree}
 use Rattle.premise_evaluation.proofs.SwitchKept.{gives_way_to}
 
 module _ (today last : ℕ) (os : List Order) (i : ℕ) (o : Order) where
@@ -58,22 +57,29 @@ module _ (today last : ℕ) (os : List Order) (i : ℕ) (o : Order) where
       let contender = or_right (awaits_permit o) (contends (up_to last) o) first in
       any_none (ousts today last i o) (λ j x. rw (contender, drop, permit)) 0 os
 
--- the order at a place of a file, as a loop over the places reads it
-module _ (today last : ℕ) (f : File) (tidy : Tidy f) (i : ℕ) (h : i < f.count) where
-  abbrev read : Order
-  read = get_or f.orders i blank
+-- what the evaluation asks of an order: whether it is due, and then whether another ousts it
+pub changes_asked : (today last agreement : ℕ) (os : List Order)
+    → any_at (λ (i : ℕ) (o : Order). is_due (up_to last) agreement o || any_at (ousts today last i o) 0 os) 0 os
+    ≡ any_at (changes_order today last agreement os) 0 os
+changes_asked today last agreement os =
+    any_agree _ (changes_order today last agreement os) 0 os
+    (λ k i s h. either (is_due (up_to last) agreement (get_or os i blank)) (any_at (ousts today last k (get_or os i blank)) 0 os)
+    ∙ sym (changes_by_others today last os k (get_or os i blank) agreement (omega (arith, s, h))
+    (ap (λ (j : ℕ). get_or os j blank) (omega (arith, s)))))
+  where
+    either : (a b : Bool) → (a || b) ≡ (b || a)
+    either true true = refl
+    either true false = refl
+    either false true = refl
+    either false false = refl
 
-  law : changes_order today last f.agreement (held f) i read
-      ≡ (any_at (ousts today last i read) 0 (held f) || is_due (up_to last) f.agreement read)
-  law =
-      changes_by_others today last (held f) i read f.agreement (subst⁻¹ (λ (n : ℕ). i < n) (length-held f tidy) h)
-      (get_or-take f.count f.orders i blank h)
-
-  pub changes_ousted : any_at (ousts today last i (get_or f.orders i blank)) 0 (held f) ≡ true
-      → changes_order today last f.agreement (held f) i (get_or f.orders i blank) ≡ true
-  changes_ousted e = law ∙ ap (λ (b : Bool). b || is_due (up_to last) f.agreement read) e
-
-  pub changes_none : is_due (up_to last) f.agreement (get_or f.orders i blank) ≡ false
-      → any_at (ousts today last i (get_or f.orders i blank)) 0 (held f) ≡ false
-      → changes_order today last f.agreement (held f) i (get_or f.orders i blank) ≡ false
-  changes_none d e = law ∙ ap₂ (λ (a b : Bool). a || b) e d
+-- what a day mark asks of an order: whether the clock changes it, and then whether the evaluation does
+pub mark_asked : (business : Bool) (today last : ℕ) (f : File)
+    → any_at (λ (i : ℕ) (o : Order). clock_changes business today o
+    || (is_due (up_to last) f.agreement o || any_at (ousts today last i o) 0 (held f))) 0 (held f)
+    ≡ mark_changes_file business today last f
+mark_asked business today last f =
+    let clock : ℕ → Order → Bool = λ (i : ℕ) (o : Order). clock_changes business today o in
+    any_or clock (λ (i : ℕ) (o : Order). is_due (up_to last) f.agreement o || any_at (ousts today last i o) 0 (held f)) 0 (held f)
+    ∙ ap (λ (b : Bool). any_at clock 0 (held f) || b) (changes_asked today last f.agreement (held f))
+    ∙ sym (any_or clock (changes_order today last f.agreement (held f)) 0 (held f))

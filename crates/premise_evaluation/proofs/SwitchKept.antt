@@ -9,8 +9,7 @@ use lib.Dec.{eqb, ltb}
 use lib.ListN.{length, get_or}
 use borrow.Author.Tests.{eq-eqb, ne_eqb, lt-ltb, le-ltb}
 use Rattle.lists.specs.Search.{any_of, place_from, place_of, is_at, or_else}
-use Rattle.lists.specs.declared.Found.{Found}
-use Rattle.lists.specs.declared.Found.TheVariants.{At, Nothing}
+use Rattle.std.specs.Prelude.{Option, Some, None}
 use Rattle.premise.specs.declared.Order.{Order}
 use Rattle.premise.specs.Orders.{blank, scheduled, cancel_pending, has_status, is_switch}
 use Rattle.premise.specs.Evaluation.{contends, contends_for, switch_of_day, gives_way}
@@ -32,7 +31,7 @@ none_older p i k (x ∷ xs) h = ap₂ (λ (a b : Bool). a || b) (fails (p x) (le
     fails false e = refl
 
 -- Where the order at a place passes, the search finds another if an older one passes.
-finds_older : (p : Order → Bool) (g : Found) (i k m : ℕ) (os : List Order) → i ≡ k + m → m < length os → p (get_or os m blank) ≡ true
+finds_older : (p : Order → Bool) (g : Option ℕ) (i k m : ℕ) (os : List Order) → i ≡ k + m → m < length os → p (get_or os m blank) ≡ true
     → not (is_at (or_else (place_from p k os) g) i) ≡ any_at (older p i) k os
 finds_older p g i k m [] s h e = absurd (omega arith)
 finds_older p g i k zero (x ∷ xs) s h e =
@@ -46,7 +45,7 @@ finds_older p g i k (suc m) (x ∷ xs) s h e =
     go false q ih = rw q ih
 
 -- Where the order at a place does not pass, the search finds another if one passes at all.
-finds_any : (p : Order → Bool) (g : Found) (i k : ℕ) (os : List Order)
+finds_any : (p : Order → Bool) (g : Option ℕ) (i k : ℕ) (os : List Order)
     → ((m : ℕ) → i ≡ k + m → m < length os → p (get_or os m blank) ≡ false)
     → not (is_at (or_else (place_from p k os) g) i) ≡ (any_of p os || not (is_at g i))
 finds_any p g i k [] fails = refl
@@ -58,9 +57,9 @@ finds_any p g i k (x ∷ xs) fails =
     go true q ih = rw (q, ne_eqb k i (λ z. false≢true (sym (fails 0 (omega (arith, z)) (omega arith)) ∙ q)))
     go false q ih = rw q ih
 
-or_nothing : (f : Found) → or_else f Nothing ≡ f
-or_nothing (At i) = refl
-or_nothing Nothing = refl
+or_nothing : (f : Option ℕ) → or_else f None ≡ f
+or_nothing (Some i) = refl
+or_nothing None = refl
 
 -- ---- the switch that is kept
 module _ (near : ℕ → Bool) (day : ℕ) where
@@ -115,8 +114,8 @@ module _ (near : ℕ → Bool) (day : ℕ) where
         finds_any scheduled_for contender i 0 os
         (λ m s k. ap (λ (j : ℕ). scheduled_for (get_or os j blank)) (omega (arith, s)) ∙ d)
         ∙ ap₂ (λ (a b : Bool). a || b) (sym (any_plain scheduled_for 0 os))
-        (ap (λ (f : Found). not (is_at f i)) (sym (or_nothing contender))
-        ∙ finds_older (contends_for near day) Nothing i 0 i os (omega arith) h e)
+        (ap (λ (f : Option ℕ). not (is_at f i)) (sym (or_nothing contender))
+        ∙ finds_older (contends_for near day) None i 0 i os (omega arith) h e)
         ∙ sym (any_or (λ (j : ℕ) (x : Order). scheduled_for x) (older (contends_for near day) i) 0 os)
         ∙ any_same (λ (j : ℕ) (x : Order). scheduled_for x || older (contends_for near day) i j x)
         (λ (j : ℕ) (x : Order). contends_for near day x && (has_status scheduled x || has_status cancel_pending x && ltb j i))

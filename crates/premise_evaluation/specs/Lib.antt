@@ -1,3 +1,3 @@
 pub mod Contenders
+pub mod Evaluable
 pub mod Ousting
-pub mod PassSteps

@@ -1,41 +1,20 @@
 // Pass 2: a drop that is displaced by a switch of its day is cancelled.
 ghost use Rattle.std.specs.Prelude.{◌≡◌};
-ghost use Rattle.lists.specs.Search.{any_of};
 ghost use Rattle.days.specs.Window.{up_to};
 ghost use Rattle.premise.specs.Orders.{held};
 ghost use Rattle.premise.specs.Evaluation.{switch_on, is_displaced, drop_on_switch_day};
-ghost use Rattle.premise.specs.WellKept.{Tidy};
-ghost use Rattle.premise.specs.Promises.{Room, DoneToOrder};
 ghost use Rattle.premise_evaluation.specs.Ousting.{is_near_drop};
 
-use premise::{File, Order, OrderAfter};
+use crate::order_tests::is_switch;
+use crate::passes::Pass;
+use premise::{File, Order};
+use premise_notices::Outbox;
 
 // Whether an order is a Scheduled switch for a day. Few orders are: each test spares the next.
 pub fn is_switch_on(day: u16, o: Order) -> bool
     ensures { result ≡ switch_on day o }
 {
-    if !crate::order_tests::is_switch(o) {
-        return false;
-    }
-    if o.status != premise::SCHEDULED {
-        return false;
-    }
-    o.scheduled == day
-}
-
-// Whether a file has a Scheduled switch for a day.
-fn any_switch_on(file: File, day: u16) -> bool
-    requires { Tidy file }
-    ensures { result ≡ any_of (switch_on day) (held file) }
-{
-    let mut i: usize = 0;
-    while i < file.count {
-        if is_switch_on(day, file.orders[i]) {
-            return true;
-        }
-        i += 1;
-    }
-    false
+    is_switch(o) && o.status == premise::SCHEDULED && o.scheduled == day
 }
 
 // Whether an order is a Scheduled drop in window.
@@ -47,43 +26,32 @@ pub fn is_near_drop(last: u16, o: Order) -> bool
         & (o.scheduled <= last)
 }
 
-// Whether an order is a drop that a switch displaces.
-fn is_displaced(last: u16, file: File, o: Order) -> bool
-    requires { Tidy file }
-    ensures { result ≡ is_displaced (up_to last) (held file) o }
+// Whether an order is a drop that one of some orders, a switch, displaces.
+#[tactic(auto, unfolding(premise::specs::Evaluation::is_displaced))]
+fn is_displaced(last: u16, orders: &[Order], o: Order) -> bool
+    ensures { result ≡ is_displaced (up_to last) orders.now o }
 {
-    if !is_near_drop(last, o) {
-        return false;
-    }
-    any_switch_on(file, o.scheduled)
+    is_near_drop(last, o) && orders.iter().any(|other| is_switch_on(o.scheduled, *other))
 }
 
-// Pass 2 on an order of a file.
-pub fn cancel_drop_on_switch_day(
-    last: u16,
-    file: File,
-    o: Order,
-    standing: usize,
-    buffer: &mut [u8],
-) -> OrderAfter
-    requires tidy { Tidy file }
-    requires room { Room standing (drop_on_switch_day (up_to last) file.premise file.retailer (held file) o).notices buffer.old }
-    ensures { DoneToOrder (drop_on_switch_day (up_to last) file.premise file.retailer (held file) o)
-        standing result buffer.old buffer.new }
-{
-    if !is_displaced(last, file, o) {
-        return OrderAfter {
-            order: o,
-            sent: standing,
-        };
-    }
-    if file.retailer != premise::NOBODY {
-        return premise_notices::cancel(file.premise, file.retailer, o, standing, buffer);
-    }
-    let t = premise_notices::as_cancelled(o);
-    let sent = premise_notices::send_cancel(file.premise, records::TDSP, t, standing, buffer);
-    OrderAfter {
-        order: t,
-        sent: sent,
+// Pass 2, by the last day in window.
+#[derive(Clone, Copy)]
+pub struct DropsOnSwitchDays {
+    pub last: u16,
+}
+
+impl Pass for DropsOnSwitchDays {
+    ghost step = { λ by file i. drop_on_switch_day (up_to by.last) file.premise file.retailer (held file) };
+
+    fn change(&self, file: &File, _i: usize, o: Order, out: &mut Outbox) -> Order {
+        if !is_displaced(self.last, file.held(), o) {
+            return o;
+        }
+        if file.retailer != premise::NOBODY {
+            return out.cancel(file.premise, file.retailer, o);
+        }
+        let t = premise_notices::as_cancelled(o);
+        out.send_cancel(file.premise, records::TDSP, t);
+        t
     }
 }

@@ -11,6 +11,6 @@ mod passes;
 mod permit_overtaken;
 mod same_day_switches;
 
-pub use changes::{may_be_ousted, ousts};
+pub use changes::{changes_order, may_be_ousted, ousts};
 pub use loss_notice::is_due;
 pub use passes::evaluate;

@@ -22,6 +22,7 @@ pub fn is_scheduled_or_cancel_pending(o: Order) -> bool
 }
 
 // Whether an order is one of the switches in window of which one a day is kept.
+#[tactic(auto, unfolding(premise::specs::Evaluation::contends))]
 pub fn is_contender(last: u16, o: Order) -> bool
     ensures { result ≡ contends (up_to last) o }
 {

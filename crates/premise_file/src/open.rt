@@ -1,32 +1,20 @@
-// Whether an order is open, and whether a file has one that is.
+// Whether an order is open, and whether one of some orders is.
 ghost use Rattle.std.specs.Prelude.{◌≡◌};
 ghost use Rattle.lists.specs.Search.{any_of};
-ghost use Rattle.premise.specs.Orders.{is_open, held};
-ghost use Rattle.premise.specs.WellKept.{Tidy};
+ghost use Rattle.premise.specs.Orders.{is_open};
 
-use premise::{File, Order};
+use premise::Order;
 
 // Whether an order is open.
-pub fn is_open(o: Order) -> bool
-    ensures { result ≡ is_open o }
+pub fn is_open(o: &Order) -> bool
+    ensures { result ≡ is_open o.now }
 {
-    let status = o.status;
-    (premise::IN_REVIEW <= status) & (status <= premise::CANCEL_PENDING)
+    (premise::IN_REVIEW <= o.status) & (o.status <= premise::CANCEL_PENDING)
 }
 
-// Whether a file has an open order.
-pub fn any_open(file: File) -> bool
-    requires { Tidy file }
-    ensures { result ≡ any_of is_open (held file) }
+// Whether one of a file's orders is open.
+pub fn any_open(orders: &[Order]) -> bool
+    ensures { result ≡ any_of is_open orders.now }
 {
-    let n = file.count;
-    let mut at: usize = 0;
-    while at < n {
-        let o = file.orders[at];
-        if is_open(o) {
-            return true;
-        }
-        at += 1;
-    }
-    false
+    orders.iter().any(is_open)
 }

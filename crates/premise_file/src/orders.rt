@@ -4,32 +4,19 @@ ghost use Rattle.lists.specs.Search.{place_of};
 ghost use Rattle.premise.specs.Orders.{held, with_orders};
 ghost use Rattle.premise.specs.WellKept.{Tidy};
 
-use lists::Found;
 use premise::{File, Order};
 
 // The place of the order with a reference.
-pub fn find(file: File, reference: u32) -> Found
-    requires { Tidy file }
-    ensures { result ≡ place_of (λ o. eqb o.reference reference) (held file) }
+pub fn find(orders: &[Order], reference: u32) -> Option<usize>
+    ensures { result ≡ place_of (λ o. eqb o.reference reference) orders.now }
 {
-    let n = file.count;
-    let mut place: usize = 0;
-    while place < n {
-        let o = file.orders[place];
-        if o.reference == reference {
-            return Found::At(place);
-        }
-        place += 1;
-    }
-    Found::Nothing
+    orders.iter().position(|o| o.reference == reference)
 }
 
-// The file with the order at a place replaced.
-pub fn with_order(file: File, i: usize, order: Order) -> File
-    requires { Tidy file × (i < file.count) }
-    ensures { result ≡ with_orders file (set (held file) i order) }
+// A file with the order at a place replaced.
+pub fn with_order(file: &mut File, i: usize, order: Order)
+    requires { Tidy file.old × (i < file.old.count) }
+    ensures { file.new ≡ with_orders file.old (set (held file.old) i order) }
 {
-    let mut f = file;
-    f.orders[i] = order;
-    f
+    file.orders[i] = order;
 }

@@ -6,89 +6,53 @@ ghost use Rattle.premise.specs.WellKept.{Tidy};
 ghost use Rattle.lists.specs.Shift.{removed};
 ghost use Rattle.premise.specs.Steps.{make_room};
 
-use lists::Found;
-use premise::{File, Order};
+use crate::open::is_open;
+use premise::{File, MOST_ORDERS, Order};
 
 // Whether eight open orders are held.
-pub fn is_full(file: File) -> bool
-    requires { Tidy file }
-    ensures { result ≡ eqb (count_of is_open (held file)) most_orders }
+#[tactic(auto, using(lists::proofs::Chains::counts))]
+pub fn is_full(orders: &[Order]) -> bool
+    ensures { result ≡ eqb (count_of is_open orders.now) most_orders }
 {
-    let n = file.count;
-    if n < premise::MOST_ORDERS {
-        return false;
+    orders.iter().filter(|o| is_open(o)).count() == MOST_ORDERS
+}
+
+// The place of the oldest closed order.
+fn first_closed(orders: &[Order]) -> Option<usize>
+    ensures { result ≡ place_of is_closed orders.now }
+{
+    orders.iter().position(|o| !is_open(o))
+}
+
+// One order more, in the first unused place.
+fn append(file: &mut File, order: Order)
+    requires { Tidy file.old × (file.old.count < most_orders) }
+    ensures { file.new ≡ with_orders file.old (held file.old ++ (order ∷ [])) }
+{
+    file.orders[file.count] = order;
+    file.count += 1;
+}
+
+// A new order joins the file; where eight are held, the oldest closed one goes. Only the places from it on are stored to.
+pub fn admit(file: &mut File, order: Order)
+    requires { Tidy file.old × (eqb (count_of is_open (held file.old)) most_orders ≡ false) }
+    ensures { file.new ≡ with_orders file.old (make_room (held file.old) ++ (order ∷ [])) }
+{
+    if file.count < MOST_ORDERS {
+        append(file, order);
+    } else if let Some(at) = first_closed(file.held()) {
+        replace_oldest(file, at, order);
     }
-    let mut place: usize = 0;
-    while place < n {
-        let o = file.orders[place];
-        if !crate::open::is_open(o) {
-            return false;
-        }
-        place += 1;
-    }
-    true
 }
 
 // The last of a file's places.
-const LAST_PLACE: usize = 7;
-
-// The place of the oldest closed order.
-fn first_closed(file: File) -> Found
-    requires { Tidy file }
-    ensures { result ≡ place_of is_closed (held file) }
-{
-    let n = file.count;
-    let mut oldest: usize = 0;
-    while oldest < n {
-        let o = file.orders[oldest];
-        if !crate::open::is_open(o) {
-            return Found::At(oldest);
-        }
-        oldest += 1;
-    }
-    Found::Nothing
-}
-
-// The file with one order more, in the first unused place.
-fn append(file: File, order: Order) -> File
-    requires { Tidy file × (file.count < most_orders) }
-    ensures { result ≡ with_orders file (held file ++ (order ∷ [])) }
-{
-    let n = file.count;
-    let mut f = file;
-    f.orders[n] = order;
-    f.count = n + 1;
-    f
-}
-
-// The file with a new order; where eight are held, the oldest closed one goes. Only the places from it on are stored to.
-pub fn admit(file: File, order: Order) -> File
-    requires { Tidy file × (eqb (count_of is_open (held file)) most_orders ≡ false) }
-    ensures { result ≡ with_orders file (make_room (held file) ++ (order ∷ [])) }
-{
-    let n = file.count;
-    if n < premise::MOST_ORDERS {
-        return append(file, order);
-    }
-    let closed = first_closed(file);
-    match closed {
-        Found::At(at) => replace_oldest(file, at, order),
-        Found::Nothing => file,
-    }
-}
+const LAST_PLACE: usize = MOST_ORDERS - 1;
 
 // The orders after a place moved one place down, and a new one in the last.
-fn replace_oldest(file: File, at: usize, order: Order) -> File
-    requires { Tidy file × (file.count ≡ most_orders) × (at < most_orders) }
-    ensures { result ≡ with_orders file (removed at (held file) ++ (order ∷ [])) }
+fn replace_oldest(file: &mut File, at: usize, order: Order)
+    requires { Tidy file.old × (file.old.count ≡ most_orders) × (at < most_orders) }
+    ensures { file.new ≡ with_orders file.old (removed at (held file.old) ++ (order ∷ [])) }
 {
-    let mut f = file;
-    let mut i = at;
-    while i < LAST_PLACE {
-        let o = f.orders[i + 1];
-        f.orders[i] = o;
-        i += 1;
-    }
-    f.orders[LAST_PLACE] = order;
-    f
+    file.orders.copy_within(at + 1.., at);
+    file.orders[LAST_PLACE] = order;
 }

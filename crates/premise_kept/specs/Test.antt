@@ -1,12 +1,11 @@
--- What the test of a file gives: whether it is well kept, and where it is, how many of its orders are in each open status (document 02,
--- change 11), as one number.
-use Rattle.std.specs.Prelude.{ℕ, ◌+◌, ◌*◌, List, true, false, cond}
+-- What the test of a file gives: nothing where it is not well kept, and where it is, how many of its orders are in each open status
+-- (document 02, change 11), as one number.
+use Rattle.std.specs.Prelude.{ℕ, ◌+◌, ◌*◌, List, cond, Option, Some, None}
 use Rattle.lists.specs.Search.{count_of}
 use Rattle.premise.specs.declared.Order.{Order}
 use Rattle.premise.specs.declared.File.{File}
 use Rattle.premise.specs.Orders.{in_review, permit_pending, scheduled, cancel_pending, has_status, held}
 use Rattle.premise.specs.WellKept.{file_kept}
-use Rattle.premise_kept.specs.declared.file.FileTest.{FileTest}
 
 -- ---- four counts as one number: 16 bits for each
 -- what one order counts in Permit Pending, Scheduled and Cancel Pending; In Review it counts 1
@@ -28,13 +27,6 @@ packed_counts os =
     packed (count_of (has_status in_review) os) (count_of (has_status permit_pending) os) (count_of (has_status scheduled) os)
     (count_of (has_status cancel_pending) os)
 
--- ---- the test of a file
-unfoldable pub passed : File → FileTest
-passed f = record { kept = true; waiting = packed_counts (held f) }
-
--- of a file that is not well kept nothing is counted
-unfoldable pub refused : FileTest
-refused = record { kept = false; waiting = 0 }
-
-unfoldable pub file_test : File → FileTest
-file_test f = cond (file_kept f) (passed f) refused
+-- ---- the test of a file; of one that is not well kept nothing is counted
+unfoldable pub file_test : File → Option ℕ
+file_test f = cond (file_kept f) (Some (packed_counts (held f))) None

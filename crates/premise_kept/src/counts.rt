@@ -6,18 +6,17 @@ ghost use Rattle.premise_kept.specs.Test.{packed, packed_counts};
 use premise::Order;
 
 // What one order counts in Permit Pending, Scheduled and Cancel Pending; In Review it counts 1.
-const PERMIT_PLACE: u64 = 65536;
+const PERMIT_PLACE: u64 = 1 << 16;
 
-const SCHEDULED_PLACE: u64 = 4294967296;
+const SCHEDULED_PLACE: u64 = 1 << 32;
 
-const CANCEL_PLACE: u64 = 281474976710656;
+const CANCEL_PLACE: u64 = 1 << 48;
 
 // What an order counts: one in its status.
-pub fn place_value(o: Order) -> u64
-    ensures { result ≡ packed_counts (o ∷ []) }
+pub fn place_value(o: &Order) -> u64
+    ensures { result ≡ packed_counts (o.now ∷ []) }
 {
-    let status = o.status;
-    match status {
+    match o.status {
         premise::IN_REVIEW => 1,
         premise::PERMIT_PENDING => PERMIT_PLACE,
         premise::SCHEDULED => SCHEDULED_PLACE,

@@ -1,31 +1,32 @@
 // Whether a file is well kept; it leaves at the first part that fails.
 ghost use Rattle.std.specs.Prelude.{◌≡◌};
-ghost use Rattle.premise_kept.specs.Test.{refused, file_test};
+ghost use Rattle.premise.specs.WellKept.{distinct};
+ghost use Rattle.premise_kept.specs.Test.{file_test};
 
-use premise::File;
+use crate::counts::place_value;
+use crate::order::order_kept;
+use crate::unused::are_blank;
+use premise::{File, Order};
 
-// Whether a file is well kept, and if so how many of its orders are in each open status, as one number.
-#[derive(Clone, Copy)]
-pub struct FileTest {
-    pub kept: bool,
-    pub waiting: u64,
-}
-
-// Of a file that is not well kept nothing is counted.
-fn refused() -> FileTest
-    ensures { result ≡ refused }
+// Whether references are distinct: each order is held against the later ones.
+fn are_distinct(orders: &[Order]) -> bool
+    ensures { result ≡ distinct orders.now }
 {
-    FileTest {
-        kept: false,
-        waiting: 0,
+    let mut left = orders;
+    while let Some((first, later)) = left.split_first() {
+        if later.iter().any(|o| o.reference == first.reference) {
+            return false;
+        }
+        left = later;
     }
+    true
 }
 
-// Whether a file is well kept. One walk over its orders tests each by itself and counts it under its status. References that rise on the
-// way are distinct; only where they do not is each held against the later ones. The places after the orders are unused. (The loops stand in
-// one function, and the counts come with the answer: a function that takes the file and reads its places makes a copy of it.)
-pub fn file_kept(file: File) -> FileTest
-    ensures { result ≡ file_test file }
+// Whether a file is well kept, and if so how many of its orders are in each open status, as one number. One walk over its orders tests each
+// by itself and counts it under its status. References that rise on the way are distinct; only where they do not is each held against the
+// later ones. The places after the orders are unused.
+pub fn file_kept(file: &File) -> Option<u64>
+    ensures { result ≡ file_test file.now }
 {
     if !((file.premise != 0)
         & (file.retailer <= records::LAST_RETAILER)
@@ -35,45 +36,23 @@ pub fn file_kept(file: File) -> FileTest
         & (file.entered <= 1)
         & (file.count <= premise::MOST_ORDERS))
     {
-        return refused();
+        return None;
     }
-    let n = file.count;
+    let (orders, unused) = file.orders.split_at(file.count);
     let mut waiting: u64 = 0;
     // no reference is 0, so that the first one rises
     let mut last: u32 = 0;
     let mut rising = true;
-    let mut i: usize = 0;
-    'held: while i < n {
-        let o = file.orders[i];
-        if !crate::order::order_kept(o) {
-            return refused();
+    for o in orders {
+        if !order_kept(o) {
+            return None;
         }
-        waiting += crate::counts::place_value(o);
+        waiting += place_value(o);
         rising = rising & (last < o.reference);
         last = o.reference;
-        i += 1;
     }
-    let mut first: usize = 0;
-    'pairs: while !rising & (first < n) {
-        let reference = file.orders[first].reference;
-        first += 1;
-        let mut later = first;
-        'later: while later < n {
-            if file.orders[later].reference == reference {
-                return refused();
-            }
-            later += 1;
-        }
+    if !rising && !are_distinct(orders) {
+        return None;
     }
-    'unused: while i < premise::MOST_ORDERS {
-        let o = file.orders[i];
-        if !crate::unused::is_blank(o) {
-            return refused();
-        }
-        i += 1;
-    }
-    FileTest {
-        kept: true,
-        waiting: waiting,
-    }
+    are_blank(unused).then_some(waiting)
 }

@@ -8,5 +8,5 @@ mod order;
 mod unused;
 
 pub use counts::packed;
-pub use file::{FileTest, file_kept};
+pub use file::file_kept;
 pub use unused::{file_blank, is_blank};

@@ -6,43 +6,36 @@ use premise::Order;
 use records::order_kind;
 
 // Whether the scheduled day fits the status: a day unless the status takes none, and none unless it takes a day.
-fn day_fits(o: Order) -> bool
-    ensures { result ≡ day_fits o }
+fn day_fits(o: &Order) -> bool
+    ensures { result ≡ day_fits o.now }
 {
-    let status = o.status;
-    let scheduled = o.scheduled;
-    let undated = (status == premise::IN_REVIEW) | (status == premise::PERMIT_PENDING);
-    let dated = (status == premise::SCHEDULED) | (status == premise::COMPLETE);
-    ((scheduled <= days::LAST_DAY) & !undated) | ((scheduled == days::NO_DAY) & !dated)
+    let undated = (o.status == premise::IN_REVIEW) | (o.status == premise::PERMIT_PENDING);
+    let dated = (o.status == premise::SCHEDULED) | (o.status == premise::COMPLETE);
+    ((o.scheduled <= days::LAST_DAY) & !undated) | ((o.scheduled == days::NO_DAY) & !dated)
 }
 
 // Whether the days in Cancel Pending fit the status.
-fn pending_fits(o: Order) -> bool
-    ensures { result ≡ pending_fits o }
+fn pending_fits(o: &Order) -> bool
+    ensures { result ≡ pending_fits o.now }
 {
-    let status = o.status;
-    let pending = o.pending.0;
-    if status == premise::CANCEL_PENDING {
-        !(premise::MOST_PENDING <= pending)
+    if o.status == premise::CANCEL_PENDING {
+        o.pending.0 < premise::MOST_PENDING
     } else {
-        pending == 0
+        o.pending.0 == 0
     }
 }
 
 // Whether every field of an order is in range.
-pub fn order_kept(o: Order) -> bool
-    ensures { result ≡ order_kept o }
+pub fn order_kept(o: &Order) -> bool
+    ensures { result ≡ order_kept o.now }
 {
-    let kind = o.kind;
-    let submitter = o.submitter;
-    let status = o.status;
     (o.reference != 0)
-        & ((order_kind::MOVE_IN <= kind) & (kind <= order_kind::MASS_TRANSITION_DROP))
-        & ((1 <= submitter) & (submitter <= records::LAST_RETAILER))
+        & ((order_kind::MOVE_IN <= o.kind) & (o.kind <= order_kind::MASS_TRANSITION_DROP))
+        & ((1 <= o.submitter) & (o.submitter <= records::LAST_RETAILER))
         & (o.requested <= days::LAST_DAY)
-        & ((premise::IN_REVIEW <= status) & (status <= premise::UNEXECUTABLE))
+        & ((premise::IN_REVIEW <= o.status) & (o.status <= premise::UNEXECUTABLE))
         & day_fits(o)
-        & ((status != premise::PERMIT_PENDING) | (kind == order_kind::MOVE_IN))
+        & ((o.status != premise::PERMIT_PENDING) | (o.kind == order_kind::MOVE_IN))
         & (o.waited.0 <= premise::MOST_WAITED)
         & pending_fits(o)
         & (o.told <= 1)

@@ -3,13 +3,11 @@ use Prim.Native.Nat.{ℕ}
 use mathlib.Core.Path.{◌≡◌, refl, sym, ap, subst, ◌∙◌}
 use mathlib.Core.Logic.{◌⊎◌, inl, inr}
 use mathlib.Core.List.{List, [], ◌∷◌, ◌++◌}
-use mathlib.Core.Option.{Option, none, some}
+use Rattle.std.specs.Prelude.{Option, Some, None}
 use mathlib.Core.Bool.{Bool, true, false, cond, not, false≢true}
 use lib.Dec.{eqb}
 use lib.ListN.{length, get_or, set}
 use borrow.Author.Tests.{eqb-true, eq-eqb, ne_eqb}
-use Rattle.lists.specs.declared.Found.{Found}
-use Rattle.lists.specs.declared.Found.TheVariants.{At, Nothing}
 use Rattle.lists.specs.Search.{any_of, without_first}
 use Rattle.lists.proofs.TestLaws.{by_test, and_other}
 use Rattle.lists.proofs.SearchLaws.{each_at, place_in, any_without}
@@ -53,18 +51,18 @@ Unnamed r reference = is kind_day_mark r ≡ false → r.reference ≡ reference
 
 record Follows (calendar : List ℕ) (premise : ℕ) (r : Record) (reference : ℕ) (before after : Option Order) : Type 0 where
   there : is_there after ≡ is_there before
-  closed : (o : Order) → before ≡ some o → is_closed o ≡ true → after ≡ some o
-  waits : (o : Order) → before ≡ some o → Waits o → Unnamed r reference → after ≡ some (waits_on calendar premise r o)
+  closed : (o : Order) → before ≡ Some o → is_closed o ≡ true → after ≡ Some o
+  waits : (o : Order) → before ≡ Some o → Waits o → Unnamed r reference → after ≡ Some (waits_on calendar premise r o)
 
-inside : (x y : Order) → ◌≡◌ {A = Option Order} (some x) (some y) → x ≡ y
+inside : (x y : Order) → ◌≡◌ {A = Option Order} (Some x) (Some y) → x ≡ y
 inside x y e = cc
 
 follows : (calendar : List ℕ) (today premise : ℕ) (r : Record) (reference : ℕ) (os : List Order) (before after : Option Order)
     → Follows calendar premise r reference before after → Becomes calendar today premise r reference os before after
-follows calendar today premise r reference os none none h = tt
-follows calendar today premise r reference os none (some x) h = absurd (false≢true (sym h.there))
-follows calendar today premise r reference os (some o) none h = absurd (false≢true h.there)
-follows calendar today premise r reference os (some o) (some x) h =
+follows calendar today premise r reference os None None h = tt
+follows calendar today premise r reference os None (Some x) h = absurd (false≢true (sym h.there))
+follows calendar today premise r reference os (Some o) None h = absurd (false≢true h.there)
+follows calendar today premise r reference os (Some o) (Some x) h =
     record {
       closed = λ c. inside x o (h.closed o refl c);
       waits = λ q u. inside x (waits_on calendar premise r o) (h.waits o refl q u);
@@ -76,19 +74,19 @@ module _ (calendar : List ℕ) (today : ℕ) (r : Record) (premise reference : �
   Into f after = Becomes calendar today premise r reference (held f) (order_in reference (held f)) after
 
   -- a record that is no day mark leaves one that waits
-  no_mark : is kind_day_mark r ≡ false → (o : Order) → some o ≡ some (waits_on calendar premise r o)
-  no_mark d o = ap (λ (b : Bool). some (cond b (ticked (is_business_day calendar r.day) r.day premise o).order o)) (sym d)
+  no_mark : is kind_day_mark r ≡ false → (o : Order) → Some o ≡ Some (waits_on calendar premise r o)
+  no_mark d o = ap (λ (b : Bool). Some (cond b (ticked (is_business_day calendar r.day) r.day premise o).order o)) (sym d)
 
   -- ---- a file, accepted
-  module _ (f : File) (n : NoRow calendar today (some f) r) (k : KeptFor premise f) where
+  module _ (f : File) (n : NoRow calendar today (Some f) r) (k : KeptFor premise f) where
     -- kind 2: no order was open
-    retired : is kind_retire r ≡ true → Into f none
+    retired : is kind_retire r ≡ true → Into f None
     retired t = go (order_in reference (held f)) refl
       where
         go : (before : Option Order) → order_in reference (held f) ≡ before
-            → Becomes calendar today premise r reference (held f) before none
-        go none e = tt
-        go (some o) e =
+            → Becomes calendar today premise r reference (held f) before None
+        go None e = tt
+        go (Some o) e =
             let no-open = and_other (is kind_retire r) (any_of is_open (held f)) n.order_open t in
             record { closed = ap not (found_fails (has_reference reference) is_open (held f) o e no-open); how = inl t }
 
@@ -102,10 +100,10 @@ module _ (calendar : List ℕ) (today : ℕ) (r : Record) (premise reference : �
               (mark_leaves calendar r.day f premise k).references;
           closed = λ o e c.
               let still = closed_unticked business r.day premise o c in
-              marked_found calendar r.day premise reference f o k (λ near m. rw still (closed_rests near o c)) e ∙ ap some still;
+              marked_found calendar r.day premise reference f o k (λ near m. rw still (closed_rests near o c)) e ∙ ap Some still;
           waits = λ o e q u.
               marked_found calendar r.day premise reference f o k (λ near m. ticked_rests near m business r.day premise o q) e
-              ∙ ap (λ (b : Bool). some (cond b (ticked business r.day premise o).order o)) (sym d);
+              ∙ ap (λ (b : Bool). Some (cond b (ticked business r.day premise o).order o)) (sym d);
         })
 
     -- kind 12
@@ -120,8 +118,8 @@ module _ (calendar : List ℕ) (today : ℕ) (r : Record) (premise reference : �
     -- a file that is left, with the order as it was if it is closed or not named, and then the evaluation
     evaluated_into : is kind_day_mark r ≡ false → (g : File) → KeptFor premise g
         → is_there (order_in reference (held g)) ≡ is_there (order_in reference (held f))
-        → ((o : Order) → order_in reference (held f) ≡ some o → (is_closed o ≡ true) ⊎ (r.reference ≡ reference → ⊥)
-        → order_in reference (held g) ≡ some o)
+        → ((o : Order) → order_in reference (held f) ≡ Some o → (is_closed o ≡ true) ⊎ (r.reference ≡ reference → ⊥)
+        → order_in reference (held g) ≡ Some o)
         → Into f (order_in reference (held (evaluated calendar today g).file))
     evaluated_into d g kept there found =
         let after = (evaluated calendar today g).file in
@@ -137,19 +135,19 @@ module _ (calendar : List ℕ) (today : ℕ) (r : Record) (premise reference : �
 
     -- ---- kinds 4 to 9 and 11
     -- another order than the one at the place found, with its own reference, is where it was
-    named_found : taken r (order_at (held f) (named r (held f))) ≡ true → (o : Order) → order_in reference (held f) ≡ some o
+    named_found : taken r (order_at (held f) (named r (held f))) ≡ true → (o : Order) → order_in reference (held f) ≡ Some o
         → (is_closed o ≡ true) ⊎ (r.reference ≡ reference → ⊥)
-        → order_in reference (held (at_place calendar today f r (named r (held f))).file) ≡ some o
+        → order_in reference (held (at_place calendar today f r (named r (held f))).file) ≡ Some o
     unfolding changed
     named_found t o e other = go (named r (held f)) refl t
       where
-        go : (found : Found) → named r (held f) ≡ found → taken r (order_at (held f) found) ≡ true
-            → order_in reference (held (at_place calendar today f r found).file) ≡ some o
-        go Nothing q t = e
-        go (At i) q t =
+        go : (found : Option ℕ) → named r (held f) ≡ found → taken r (order_at (held f) found) ≡ true
+            → order_in reference (held (at_place calendar today f r found).file) ≡ Some o
+        go None q t = e
+        go (Some i) q t =
             let old : Order = get_or (held f) i blank in
             let new : Order = (on_named calendar today f r old).order in
-            let at : order_in r.reference (held f) ≡ some old = found_at (has_reference r.reference) (held f) i blank q in
+            let at : order_in r.reference (held f) ≡ Some old = found_at (has_reference r.reference) (held f) i blank q in
             let own = eqb-true old.reference r.reference (found_passes (has_reference r.reference) (held f) old at) in
             let kept = each_at OrderKept (held f) i blank (place_in (has_reference r.reference) (held f) i q)
             (orders_facts (held f) k.kept.orders) in
@@ -157,7 +155,7 @@ module _ (calendar : List ℕ) (today : ℕ) (r : Record) (premise reference : �
             ap (order_in reference) (held_with (supplied f r old) (set (held f) i new))
             ∙ found-set reference (held f) i new blank left.reference (λ s. unnamed old t at other (sym own ∙ s)) ∙ e
           where
-            unnamed : (old : Order) → taken r old ≡ true → order_in r.reference (held f) ≡ some old
+            unnamed : (old : Order) → taken r old ≡ true → order_in r.reference (held f) ≡ Some old
                 → (is_closed o ≡ true) ⊎ (r.reference ≡ reference → ⊥) → r.reference ≡ reference → ⊥
             unnamed old t at (inl c) s =
                 let same = inside old o (sym at ∙ ap (λ (m : ℕ). order_in m (held f)) s ∙ e) in
@@ -174,23 +172,23 @@ module _ (calendar : List ℕ) (today : ℕ) (r : Record) (premise reference : �
 
     -- ---- kind 3
     -- after room is made it is there, or it was the one that made room
-    room_found : (o : Order) → order_in reference (held f) ≡ some o
-        → (order_in reference (make_room (held f)) ≡ some o)
-        ⊎ ((length (held f) ≡ most_orders) × ((oldest_closed (held f) ≡ some o) × (order_in reference (make_room (held f)) ≡ none)))
+    room_found : (o : Order) → order_in reference (held f) ≡ Some o
+        → (order_in reference (make_room (held f)) ≡ Some o)
+        ⊎ ((length (held f) ≡ most_orders) × ((oldest_closed (held f) ≡ Some o) × (order_in reference (make_room (held f)) ≡ None)))
     unfolding make_room
     room_found o e =
-        by_test (λ (os : List Order). (order_in reference os ≡ some o)
-        ⊎ ((length (held f) ≡ most_orders) × ((oldest_closed (held f) ≡ some o) × (order_in reference os ≡ none))))
+        by_test (λ (os : List Order). (order_in reference os ≡ Some o)
+        ⊎ ((length (held f) ≡ most_orders) × ((oldest_closed (held f) ≡ Some o) × (order_in reference os ≡ None))))
         (eqb (length (held f)) most_orders) (without_first is_closed (held f)) (held f)
         (λ q. full (eqb-true (length (held f)) most_orders q) (found_without reference is_closed (held f) o k.kept.references e))
         (λ q. inl e)
       where
         full : length (held f) ≡ most_orders
-            → (order_in reference (without_first is_closed (held f)) ≡ some o)
-            ⊎ ((oldest_closed (held f) ≡ some o) × (order_in reference (without_first is_closed (held f)) ≡ none))
-            → (order_in reference (without_first is_closed (held f)) ≡ some o)
+            → (order_in reference (without_first is_closed (held f)) ≡ Some o)
+            ⊎ ((oldest_closed (held f) ≡ Some o) × (order_in reference (without_first is_closed (held f)) ≡ None))
+            → (order_in reference (without_first is_closed (held f)) ≡ Some o)
             ⊎ ((length (held f) ≡ most_orders)
-            × ((oldest_closed (held f) ≡ some o) × (order_in reference (without_first is_closed (held f)) ≡ none)))
+            × ((oldest_closed (held f) ≡ Some o) × (order_in reference (without_first is_closed (held f)) ≡ None)))
         full m (inl x) = inl x
         full m (inr x) = inr (m, x)
 
@@ -199,7 +197,7 @@ module _ (calendar : List ℕ) (today : ℕ) (r : Record) (premise reference : �
     ordered_held = held_with f (make_room (held f) ++ (new_order calendar today r ∷ []))
 
     -- a new order's reference is held by none
-    other_reference : is kind_new_order r ≡ true → (o : Order) → order_in reference (held f) ≡ some o → r.reference ≡ reference → ⊥
+    other_reference : is kind_new_order r ≡ true → (o : Order) → order_in reference (held f) ≡ Some o → r.reference ≡ reference → ⊥
     other_reference e o q s =
         false≢true
         (sym (reference_free calendar today f r w n e) ∙ ap (λ (m : ℕ). any_of (has_reference m) (held f)) s
@@ -222,40 +220,40 @@ module _ (calendar : List ℕ) (today : ℕ) (r : Record) (premise reference : �
         after = order_in reference (held (evaluated calendar today g).file)
 
         -- what is not there before the evaluation is not there after it
-        away : order_in reference (held g) ≡ none → after ≡ none
+        away : order_in reference (held g) ≡ None → after ≡ None
         away q = not_there after
             (there_same reference (held g) (held (evaluated calendar today g).file)
             (evaluated_leaves calendar today g premise kept).references
             ∙ ap is_there q)
 
-        behind : (own : Bool) → eqb r.reference reference ≡ own → order_in reference (make_room (held f)) ≡ none
-            → order_in reference (held g) ≡ cond own (some new) none
+        behind : (own : Bool) → eqb r.reference reference ≡ own → order_in reference (make_room (held f)) ≡ None
+            → order_in reference (held g) ≡ cond own (Some new) None
         behind own s q =
             ap (order_in reference) ordered_held ∙ found_behind reference (make_room (held f)) (new ∷ []) q
-            ∙ ap (λ (b : Bool). cond b (some new) none) s
+            ∙ ap (λ (b : Bool). cond b (Some new) None) s
 
-        brought : (own : Bool) → eqb r.reference reference ≡ own → order_in reference (make_room (held f)) ≡ none
-            → Becomes calendar today premise r reference (held f) none after
+        brought : (own : Bool) → eqb r.reference reference ≡ own → order_in reference (make_room (held f)) ≡ None
+            → Becomes calendar today premise r reference (held f) None after
         brought true s q =
-            subst (Becomes calendar today premise r reference (held f) none)
+            subst (Becomes calendar today premise r reference (held f) None)
             (sym
             (evaluated_found calendar today premise reference g new kept
             (waits_rests (window calendar today g) (no_day_far calendar today g) new (record { unscheduled = refl; status = refl }))
             (behind true s q)))
             (record { kind = e; names = eqb-true r.reference reference s; new = refl })
-        brought false s q = subst (Becomes calendar today premise r reference (held f) none) (sym (away (behind false s q))) tt
+        brought false s q = subst (Becomes calendar today premise r reference (held f) None) (sym (away (behind false s q))) tt
 
-        left : (o : Order) → order_in reference (held f) ≡ some o
-            → (order_in reference (make_room (held f)) ≡ some o)
-            ⊎ ((length (held f) ≡ most_orders) × ((oldest_closed (held f) ≡ some o) × (order_in reference (make_room (held f)) ≡ none)))
-            → Becomes calendar today premise r reference (held f) (some o) after
+        left : (o : Order) → order_in reference (held f) ≡ Some o
+            → (order_in reference (make_room (held f)) ≡ Some o)
+            ⊎ ((length (held f) ≡ most_orders) × ((oldest_closed (held f) ≡ Some o) × (order_in reference (make_room (held f)) ≡ None)))
+            → Becomes calendar today premise r reference (held f) (Some o) after
         left o q (inl x) =
             let here = ap (order_in reference) ordered_held ∙ found-append reference (make_room (held f)) (new ∷ []) o x in
             subst (λ (before : Option Order). Becomes calendar today premise r reference (held f) before after) q
             (evaluated_into d g kept (ap is_there (here ∙ sym q)) (λ p u v. here ∙ sym q ∙ u))
         left o q (inr x) =
             let s = ne_eqb r.reference reference (other_reference e o q) in
-            subst (Becomes calendar today premise r reference (held f) (some o)) (sym (away (behind false s x.1.1)))
+            subst (Becomes calendar today premise r reference (held f) (Some o)) (sym (away (behind false s x.1.1)))
             (record {
               closed = found_passes is_closed (held f) o x.1.0;
               how = inr (record { kind = e; full = x.0; oldest = x.1.0 });
@@ -263,13 +261,13 @@ module _ (calendar : List ℕ) (today : ℕ) (r : Record) (premise reference : �
 
         go : (before : Option Order) → order_in reference (held f) ≡ before
             → Becomes calendar today premise r reference (held f) before after
-        go none q =
+        go None q =
             let nowhere = sym (there_any (has_reference reference) (held f)) ∙ ap is_there q in
             brought (eqb r.reference reference) refl
-            (room_by (λ os. order_in reference os ≡ none) (held f) q
+            (room_by (λ os. order_in reference os ≡ None) (held f) q
             (none_passes (has_reference reference) (without_first is_closed (held f))
             (any_without (has_reference reference) is_closed (held f) nowhere)))
-        go (some o) q = left o q (room_found o q)
+        go (Some o) q = left o q (room_found o q)
 
     stepped_into : is kind_retire r ≡ false → is kind_day_mark r ≡ false → is kind_agreement r ≡ false
         → Into f (order_in reference (held (stepped calendar today f r).file))
@@ -282,10 +280,10 @@ module _ (calendar : List ℕ) (today : ℕ) (r : Record) (premise reference : �
   effect_into : (file : Option File) → NoRow calendar today file r → Held (KeptFor premise) file
       → Becomes calendar today premise r reference (orders_of file) (order_in reference (orders_of file))
       (order_in reference (orders_of (effect_on calendar today file r).state.file))
-  effect_into none n k =
-      by_test (λ (x : Given). Becomes calendar today premise r reference [] none (order_in reference (orders_of x.state.file)))
+  effect_into None n k =
+      by_test (λ (x : Given). Becomes calendar today premise r reference [] None (order_in reference (orders_of x.state.file)))
       (is kind_create r) _ _ (λ e. tt) (λ e. tt)
-  effect_into (some f) n k =
+  effect_into (Some f) n k =
       by_test (λ (x : Given). Into f (order_in reference (orders_of x.state.file))) (is kind_retire r) _ _ (retired f n k)
       (λ t. by_test (λ (x : Given). Into f (order_in reference (orders_of x.state.file))) (is kind_day_mark r) _ _ (marked_into f n k)
       (λ d. by_test (λ (a : Effect). Into f (order_in reference (held a.file))) (is kind_agreement r) _ _ (λ a. agreed_into f n k d)

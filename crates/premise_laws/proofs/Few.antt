@@ -2,13 +2,11 @@
 use Prim.Native.Nat.{ℕ, ◌*◌, ◌≤◌, ◌<◌}
 use mathlib.Core.Path.{◌≡◌, sym, ap, ◌∙◌}
 use mathlib.Core.List.{List, [], ◌∷◌, ◌++◌}
-use mathlib.Core.Option.{Option, none, some}
+use Rattle.std.specs.Prelude.{Option, Some, None}
 use mathlib.Core.Bool.{Bool, true, false, cond, true≢false}
 use native.Mathlib.Omega.{arith}
 use lib.Dec.{eqb}
 use lib.ListN.{length, set, length-append, length-set}
-use Rattle.lists.specs.declared.Found.{Found}
-use Rattle.lists.specs.declared.Found.TheVariants.{At, Nothing}
 use Rattle.days.specs.Days.{is_business_day}
 use Rattle.days.specs.Window.{in_window}
 use Rattle.records.specs.declared.Record.{Record}
@@ -97,17 +95,17 @@ record Few (e : Effect) : Type 0 where
   notices : length e.notices ≤ 2
   orders : length (held e.file) ≤ most_orders
 
-place_few : (calendar : List ℕ) (today : ℕ) (f : File) (r : Record) (place : Found) → f.count ≤ most_orders
+place_few : (calendar : List ℕ) (today : ℕ) (f : File) (r : Record) (place : Option ℕ) → f.count ≤ most_orders
     → Few (at_place calendar today f r place)
 unfolding changed
-place_few calendar today f r (At i) h =
-    let o : Order = order_at (held f) (At i) in
+place_few calendar today f r (Some i) h =
+    let o : Order = order_at (held f) (Some i) in
     let after : Order = (on_named calendar today f r o).order in
     record {
       notices = omega (arith, (own_few calendar today f r o).fact);
       orders = omega (arith, ap length (held_with (supplied f r o) (set (held f) i after)), length-set (held f) i after, held_most f h);
     }
-place_few calendar today f r Nothing h = record { notices = omega arith; orders = held_most f h }
+place_few calendar today f r None h = record { notices = omega arith; orders = held_most f h }
 
 new_few : (calendar : List ℕ) (today : ℕ) (f : File) (r : Record) → length (make_room (held f)) < most_orders
     → Few (ordered calendar today f r)
@@ -153,9 +151,9 @@ agreed_few f r =
 effect_few : (calendar : List ℕ) (today : ℕ) (file : Option File) (r : Record)
     → eqb (number (first_row (rows calendar today file r))) 0 ≡ true → is kind_day_mark r ≡ false → Held FileKept file
     → length (effect_on calendar today file r).notices ≤ most_of_record
-effect_few calendar today none r e m k =
+effect_few calendar today None r e m k =
     by_test (λ (g : Given). length g.notices ≤ most_of_record) (is kind_create r) _ _ (λ t. omega arith) (λ t. omega arith)
-effect_few calendar today (some f) r e m k =
+effect_few calendar today (Some f) r e m k =
     let P : Given → Type 0 = (λ g. length g.notices ≤ most_of_record) in
     by_test P (is kind_retire r) _ _ (λ t. omega arith) (λ t.
     by_test P (is kind_day_mark r) _ _ (λ t. absurd (true≢false (sym t ∙ m))) (λ t.

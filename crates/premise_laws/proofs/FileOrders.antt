@@ -6,7 +6,7 @@ use mathlib.Core.Bool.{Bool}
 use native.Mathlib.Omega.{arith}
 use lib.ListN.{length, get_or, set, replicate, length-set}
 use lib.Seq.{get_or-take, set-append_left}
-use Rattle.lists.specs.declared.Found.TheVariants.{At}
+use Rattle.std.specs.Prelude.{Some}
 use Rattle.lists.specs.Search.{place_of}
 use Rattle.lists.proofs.Find.{place_below}
 use Rattle.premise.specs.declared.Order.{Order}
@@ -37,7 +37,7 @@ module _ (f : File) (tidy : Tidy f) where
   tidy_set i o = tidy_with f (set (held f) i o) (omega (arith, length-set (held f) i o, length-held f tidy, tidy.few))
 
   -- the place found is that of an order held
-  pub place_held : (i : ℕ) (p : Order → Bool) → place_of p (held f) ≡ At i → i < f.count
+  pub place_held : (i : ℕ) (p : Order → Bool) → place_of p (held f) ≡ Some i → i < f.count
   place_held i p e = omega (arith, place_below p 0 (held f) i e, length-held f tidy)
 
 -- the order at a place

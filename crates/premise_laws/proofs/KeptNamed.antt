@@ -9,8 +9,7 @@ use lib.Dec.{eqb, leb}
 use lib.ListN.{length, get_or, set}
 use lib.Seq.{map-set_same}
 use borrow.Author.Tests.{eqb-true}
-use Rattle.lists.specs.declared.Found.{Found}
-use Rattle.lists.specs.declared.Found.TheVariants.{At, Nothing}
+use Rattle.std.specs.Prelude.{Option, Some, None}
 use Rattle.lists.specs.Search.{Each}
 use Rattle.lists.proofs.TestLaws.{by_test, and_left, and_right, or_either}
 use Rattle.lists.proofs.SearchLaws.{each_set, each_at, place_in, count_set}
@@ -126,13 +125,13 @@ pub named_leaves : (calendar : List ℕ) (today : ℕ) (f : File) (r : Record) �
 unfolding changed
 named_leaves calendar today f r w t premise h = go (named r (held f)) (place_in (has_reference r.reference) (held f)) t
   where
-    go : (found : Found) → ((i : ℕ) → found ≡ At i → i < length (held f)) → taken r (order_at (held f) found) ≡ true
+    go : (found : Option ℕ) → ((i : ℕ) → found ≡ Some i → i < length (held f)) → taken r (order_at (held f) found) ≡ true
         → LeavesFile premise f (at_place calendar today f r found).file
-    go (At i) b t =
+    go (Some i) b t =
         let o = get_or (held f) i blank in
         let os = orders_facts (held f) h.kept.orders in
         let k = each_at OrderKept (held f) i blank (b i refl) os in
         file_after premise f (supplied f r o) (set (held f) i (on_named calendar today f r o).order) h
         (supplied_keeps calendar today f r o w t k premise h)
         (set_leaves (held f) i (on_named calendar today f r o).order os (named_order_leaves calendar today f r o w t k))
-    go Nothing b t = record { kept = h; references = refl; open_of_lem = λ retailer. omega arith }
+    go None b t = record { kept = h; references = refl; open_of_lem = λ retailer. omega arith }

@@ -5,14 +5,12 @@ use Prim.Native.Nat.{ℕ, ◌+◌, ◌≤◌, ◌<◌}
 use mathlib.Core.Path.{◌≡◌, refl, ap, ap₂}
 use mathlib.Core.Logic.{◌⊎◌, inl, inr}
 use mathlib.Core.List.{List, [], ◌∷◌, ◌++◌}
-use mathlib.Core.Option.{some}
+use Rattle.std.specs.Prelude.{Option, Some, None}
 use mathlib.Core.Bool.{Bool, true, false, cond, not, ◌&&◌, false≢true}
 use native.Mathlib.Omega.{arith}
 use lib.Dec.{eqb, leb}
 use lib.ListN.{length, length-append}
 use borrow.Author.Tests.{not-false, le-leb, leb-false, eqb-true, eqb-false}
-use Rattle.lists.specs.declared.Found.{Found}
-use Rattle.lists.specs.declared.Found.TheVariants.{At, Nothing}
 use Rattle.lists.specs.Search.{any_of, count_of, without_first, Each}
 use Rattle.lists.proofs.TestLaws.{by_test, and_other}
 use Rattle.lists.proofs.SearchLaws.{each_append, each_without, any_without, none_found, length_without, count_most, some_fails}
@@ -66,11 +64,11 @@ switch_day calendar today e = go (switch_date_is calendar today)
     go (inl s) = le-leb (switch_date calendar today) last_day s.day
     go (inr s) = absurd (eqb-false (switch_date calendar today) no_day e s.missing)
 
-nothing_is : (found : Found) → is_nothing found ≡ true → found ≡ Nothing
-nothing_is (At i) e = absurd (false≢true e)
-nothing_is Nothing e = refl
+nothing_is : (found : Option ℕ) → is_nothing found ≡ true → found ≡ None
+nothing_is (Some i) e = absurd (false≢true e)
+nothing_is None e = refl
 
-module _ (calendar : List ℕ) (today : ℕ) (f : File) (r : Record) (w : well_formed r ≡ true) (n : NoRow calendar today (some f) r)
+module _ (calendar : List ℕ) (today : ℕ) (f : File) (r : Record) (w : well_formed r ≡ true) (n : NoRow calendar today (Some f) r)
     (e : is kind_new_order r ≡ true) where
   requested_day_lem : is_day (requested_day calendar today r) ≡ true
   unfolding requested_day

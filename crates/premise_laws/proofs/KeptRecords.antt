@@ -3,7 +3,7 @@
 use Prim.Native.Nat.{ℕ, ◌+◌}
 use mathlib.Core.Path.{◌≡◌, refl, sym, ap₂, ◌∙◌}
 use mathlib.Core.List.{List, [], ◌∷◌}
-use mathlib.Core.Option.{Option}
+use Rattle.std.specs.Prelude.{Option, None}
 use mathlib.Core.Bool.{Bool, true, false, cond, not, ◌&&◌, ◌||◌, false≢true}
 use lib.Dec.{eqb, leb}
 use native.Mathlib.Omega.{arith}
@@ -33,7 +33,7 @@ wait_few calendar today = by_test (λ (days : ℕ). leb days most_waited ≡ tru
 pub width_kept : (detail : ℕ) → a_window detail ≡ true → (leb 1 (width_for detail) && leb (width_for detail) most_width) ≡ true
 width_kept detail h = go (eqb detail 0) refl
   where
-    go : (none : Bool) → eqb detail 0 ≡ none → (leb 1 (cond none window_width detail) && leb (cond none window_width detail) most_width) ≡ true
+    go : (None : Bool) → eqb detail 0 ≡ None → (leb 1 (cond None window_width detail) && leb (cond None window_width detail) most_width) ≡ true
     go true e = refl
     go false e = ap₂ (λ (a b : Bool). a && b) (le-leb 1 detail (omega (arith, eqb-false detail 0 e))) h
 

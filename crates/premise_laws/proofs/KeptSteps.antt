@@ -4,7 +4,7 @@
 use Prim.Native.Nat.{ℕ}
 use mathlib.Core.Path.{◌≡◌, refl, sym, ap, ap₂, ◌∙◌}
 use mathlib.Core.List.{List, []}
-use mathlib.Core.Option.{Option, none, some}
+use Rattle.std.specs.Prelude.{Option, Some, None}
 use mathlib.Core.Bool.{Bool, true, false, not, ◌&&◌, ◌||◌, and-true, or-true}
 use native.Mathlib.Omega.{arith}
 use lib.Dec.{eqb, leb}
@@ -85,7 +85,7 @@ module _ (calendar : List ℕ) (today : ℕ) (r : Record) (premise retailer : �
       }
 
   -- kinds 3 to 9 and 11
-  module _ (f : File) (n : NoRow calendar today (some f) r) (k : KeptFor premise f) where
+  module _ (f : File) (n : NoRow calendar today (Some f) r) (k : KeptFor premise f) where
     -- the order that is named is taken, by row 14
     pub named_taken : is kind_retire r ≡ false → is kind_day_mark r ≡ false → is kind_agreement r ≡ false → is kind_new_order r ≡ false
         → taken r (order_at (held f) (named r (held f))) ≡ true
@@ -127,14 +127,14 @@ module _ (calendar : List ℕ) (today : ℕ) (r : Record) (premise retailer : �
 
   -- where there is no file, a create is of the premise
   abbrev Own : Option File → Type 0
-  Own none = is kind_create r ≡ true → r.premise ≡ premise
-  Own (some f) = Unit {0}
+  Own None = is kind_create r ≡ true → r.premise ≡ premise
+  Own (Some f) = Unit {0}
 
   effect_left : (file : Option File) → Own file → NoRow calendar today file r → Held (KeptFor premise) file
       → LeftBy premise retailer (Held (WithinShare retailer) file) (effect_on calendar today file r)
-  effect_left none own n k =
+  effect_left None own n k =
       by_test (LeftBy premise retailer (Unit {0})) (is kind_create r) _ _ (λ e. new_file_left (Unit {0}) e (own e)) (λ e. tt)
-  effect_left (some f) own n k =
+  effect_left (Some f) own n k =
       by_test (LeftBy premise retailer (WithinShare retailer f)) (is kind_retire r) _ _ (λ t. tt)
       (λ t. by_test (LeftBy premise retailer (WithinShare retailer f)) (is kind_day_mark r) _ _
       (λ d. let a = mark_leaves calendar r.day f premise k in
@@ -144,8 +144,8 @@ module _ (calendar : List ℕ) (today : ℕ) (r : Record) (premise retailer : �
 
   -- a refusal leaves what there was
   as_before : (file : Option File) → Held (KeptFor premise) file → Held (Left premise retailer (Held (WithinShare retailer) file)) file
-  as_before none k = tt
-  as_before (some f) k = record { kept = k; share = λ h. h }
+  as_before None k = tt
+  as_before (Some f) k = record { kept = k; share = λ h. h }
 
   step_left : (file : Option File) → Own file → Held (KeptFor premise) file
       → LeftBy premise retailer (Held (WithinShare retailer) file) (given_on calendar today file r)
@@ -162,24 +162,24 @@ step_keeps calendar s r premise w p k = go (given_on calendar s.today s.file r).
   where
     -- a create is no day mark
     own : (file : Option File) → Own calendar s.today r premise 0 w file
-    own none = λ e. p (ap (λ (kind : ℕ). eqb kind kind_day_mark) (eqb-true r.kind kind_create e))
-    own (some f) = tt
+    own None = λ e. p (ap (λ (kind : ℕ). eqb kind kind_day_mark) (eqb-true r.kind kind_create e))
+    own (Some f) = tt
 
     go : (file : Option File) → Held (Left premise 0 (Held (WithinShare 0) s.file)) file → Held (KeptFor premise) file
-    go none a = tt
-    go (some f) a = a.kept
+    go None a = tt
+    go (Some f) a = a.kept
 
 pub step_keeps_shares : StepKeepsShares
 step_keeps_shares calendar s r retailer w k h = go s.file k h
   where
     share : (premise : ℕ) (before : Type 0) (file : Option File) → before → Held (Left premise retailer before) file
         → Held (WithinShare retailer) file
-    share premise before none h a = tt
-    share premise before (some f) h a = a.share h
+    share premise before None h a = tt
+    share premise before (Some f) h a = a.share h
 
     go : (file : Option File) → Held FileKept file → Held (WithinShare retailer) file
         → Held (WithinShare retailer) (given_on calendar s.today file r).state.file
-    go none k h = share r.premise (Unit {0}) (given_on calendar s.today none r).state.file h
-        (step_left calendar s.today r r.premise retailer w none (λ e. refl) tt)
-    go (some f) k h = share f.premise (WithinShare retailer f) (given_on calendar s.today (some f) r).state.file h
-        (step_left calendar s.today r f.premise retailer w (some f) tt (record { number = refl; kept = k }))
+    go None k h = share r.premise (Unit {0}) (given_on calendar s.today None r).state.file h
+        (step_left calendar s.today r r.premise retailer w None (λ e. refl) tt)
+    go (Some f) k h = share f.premise (WithinShare retailer f) (given_on calendar s.today (Some f) r).state.file h
+        (step_left calendar s.today r f.premise retailer w (Some f) tt (record { number = refl; kept = k }))

@@ -20,11 +20,9 @@ pub mod KeptSteps
 pub mod LossNotice
 pub mod MarkChanges
 pub mod Notices
-pub mod OrderDone
 pub mod OrdersFound
 pub mod OrdersRest
 pub mod OtherPasses
-pub mod PassTurns
 pub mod Passes
 pub mod PermitOvertaken
 pub mod Retailers
@@ -33,7 +31,6 @@ pub mod SameDaySwitch
 pub mod Says
 pub mod Sends
 pub mod Tests
-pub mod Then
 pub mod WaitGoesOn
 pub mod Windows
 pub mod Writes

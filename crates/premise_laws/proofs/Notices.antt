@@ -2,12 +2,10 @@
 use Prim.Native.Nat.{ℕ}
 use mathlib.Core.Path.{◌≡◌, refl}
 use mathlib.Core.List.{List, [], ◌∷◌, ◌++◌}
-use mathlib.Core.Option.{Option, none, some}
+use Rattle.std.specs.Prelude.{Option, Some, None}
 use mathlib.Core.Bool.{Bool, true, false, cond}
 use lib.Dec.{eqb}
 use Rattle.lists.specs.Search.{Each}
-use Rattle.lists.specs.declared.Found.{Found}
-use Rattle.lists.specs.declared.Found.TheVariants.{At, Nothing}
 use Rattle.days.specs.Days.{is_business_day}
 use Rattle.days.specs.Window.{in_window}
 use Rattle.records.specs.declared.Record.{Record}
@@ -101,10 +99,10 @@ record Stays (premise : ℕ) (e : Effect) : Type 0 where
   file : e.file.premise ≡ premise
   notices : Each (Of premise) e.notices
 
-place_of : (calendar : List ℕ) (today : ℕ) (f : File) (r : Record) (place : Found) → Stays f.premise (at_place calendar today f r place)
+place_of : (calendar : List ℕ) (today : ℕ) (f : File) (r : Record) (place : Option ℕ) → Stays f.premise (at_place calendar today f r place)
 unfolding changed
-place_of calendar today f r (At i) = record { file = supplied_premise f r _; notices = (order_of calendar today f r _).all }
-place_of calendar today f r Nothing = record { file = refl; notices = tt }
+place_of calendar today f r (Some i) = record { file = supplied_premise f r _; notices = (order_of calendar today f r _).all }
+place_of calendar today f r None = record { file = refl; notices = tt }
 
 new_of : (calendar : List ℕ) (today : ℕ) (f : File) (r : Record) → Stays f.premise (ordered calendar today f r)
 unfolding ordered
@@ -140,9 +138,9 @@ agreed_of f r = by_test (λ (e : Effect). Each (Of f.premise) e.notices) (eqb r.
 
 effect_of : (calendar : List ℕ) (today : ℕ) (file : Option File) (r : Record) (premise : ℕ) → Held (λ f. f.premise ≡ premise) file
     → Each (Of premise) (effect_on calendar today file r).notices
-effect_of calendar today none r premise h =
+effect_of calendar today None r premise h =
     by_test (λ (g : Given). Each (Of premise) g.notices) (is kind_create r) _ _ (λ e. tt) (λ e. tt)
-effect_of calendar today (some f) r premise h =
+effect_of calendar today (Some f) r premise h =
     let P : Given → Type 0 = (λ g. Each (Of premise) g.notices) in
     by_test P (is kind_retire r) _ _ (λ e. tt) (λ e.
     by_test P (is kind_day_mark r) _ _ (λ e. of_same (marked calendar r.day f).notices h (mark_notices calendar r.day f))

@@ -3,7 +3,7 @@
 use Prim.Native.Nat.{ℕ, ◌+◌}
 use mathlib.Core.Path.{◌≡◌, refl, sym, ap, ap₂, ◌∙◌}
 use mathlib.Core.List.{List, []}
-use mathlib.Core.Option.{some}
+use Rattle.std.specs.Prelude.{Some}
 use mathlib.Core.Bool.{Bool, true, false, cond, ◌&&◌, ◌||◌, false≢true, and-false}
 use lib.Dec.{eqb, leb}
 use borrow.Author.Tests.{ne_eqb, eqb-true, not-true}
@@ -100,7 +100,7 @@ closed_unticked business today premise o c =
 -- found among kept orders
 record Found (reference : ℕ) (o : Order) (os : List Order) : Type 0 where
   kept : Each OrderKept os
-  found : order_in reference os ≡ some o
+  found : order_in reference os ≡ Some o
 
 found_after : (reference : ℕ) (o next : Order) (step : ℕ → Order → Change)
     → ((i : ℕ) (x : Order) → OrderKept x → Leaves x (step i x).order) → ((i : ℕ) → (step i o).order ≡ next)
@@ -128,7 +128,7 @@ module _ (near : ℕ → Bool) (today : ℕ) (f : File) (reference : ℕ) (o : O
   unfolding loss_notice
   rests_loss = unmoved (is_due near f.agreement o) _ (far_due near [] o rests.far f.agreement)
 
-  rests_evaluation : (os : List Order) → Found reference o os → order_in reference (evaluation near today f os).orders ≡ some o
+  rests_evaluation : (os : List Order) → Found reference o os → order_in reference (evaluation near today f os).orders ≡ Some o
   unfolding evaluation
   rests_evaluation os e =
       let premise : ℕ = f.premise in
@@ -158,7 +158,7 @@ no_day_far calendar today f = refl
 module _ (calendar : List ℕ) (today premise reference : ℕ) where
   -- one that rests, after the evaluation
   pub evaluated_found : (f : File) (o : Order) → KeptFor premise f → Rests (window calendar today f) o
-      → order_in reference (held f) ≡ some o → order_in reference (held (evaluated calendar today f).file) ≡ some o
+      → order_in reference (held f) ≡ Some o → order_in reference (held (evaluated calendar today f).file) ≡ Some o
   evaluated_found f o k rests e =
       let near : ℕ → Bool = window calendar today f in
       ap (order_in reference) (held_with f (evaluation near today f (held f)).orders)
@@ -167,8 +167,8 @@ module _ (calendar : List ℕ) (today premise reference : ℕ) where
   -- one that the clock makes rest, after a day mark
   pub marked_found : (f : File) (o : Order) → KeptFor premise f
       → ((near : ℕ → Bool) → near no_day ≡ false → Rests near (ticked (is_business_day calendar today) today premise o).order)
-      → order_in reference (held f) ≡ some o
-      → order_in reference (held (marked calendar today f).file) ≡ some (ticked (is_business_day calendar today) today premise o).order
+      → order_in reference (held f) ≡ Some o
+      → order_in reference (held (marked calendar today f).file) ≡ Some (ticked (is_business_day calendar today) today premise o).order
   unfolding marked_with
   marked_found f o k rests e =
       let business : Bool = is_business_day calendar today in

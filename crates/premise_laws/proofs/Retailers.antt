@@ -2,15 +2,13 @@
 use Prim.Native.Nat.{ℕ, zero, suc, ◌≤◌}
 use mathlib.Core.Path.{◌≡◌, refl, sym, ap₂, subst, ◌∙◌}
 use mathlib.Core.List.{List, [], ◌∷◌, ◌++◌}
-use mathlib.Core.Option.{Option, none, some}
+use Rattle.std.specs.Prelude.{Option, Some, None}
 use mathlib.Core.Bool.{Bool, true, false, cond, not, ◌&&◌}
 use native.Mathlib.Omega.{arith}
 use lib.Dec.{eqb, leb}
 use lib.ListN.{get_or, set}
 use borrow.Author.Tests.{eqb-true, le-leb}
 use Rattle.lists.specs.Search.{all_of, Each}
-use Rattle.lists.specs.declared.Found.{Found}
-use Rattle.lists.specs.declared.Found.TheVariants.{At, Nothing}
 use Rattle.lists.proofs.TestLaws.{by_test}
 use Rattle.lists.proofs.SearchLaws.{each_append, each_set, each_without}
 use Rattle.days.specs.Days.{is_business_day}
@@ -225,9 +223,9 @@ module _ (last : ℕ) (calendar : List ℕ) (today : ℕ) (f : File) (r : Record
       })
       (λ e. h)
 
-  place_names : (place : Found) → LeavesUpTo last (at_place calendar today f r place)
+  place_names : (place : Option ℕ) → LeavesUpTo last (at_place calendar today f r place)
   unfolding changed
-  place_names (At i) =
+  place_names (Some i) =
       let o = get_or (held f) i blank in
       let own = at_place_lem last (held f) i h.submitters in
       let done = order_names last o (record { fact = own }) calendar today f r (record { fact = h.retailer })
@@ -237,7 +235,7 @@ module _ (last : ℕ) (calendar : List ℕ) (today : ℕ) (f : File) (r : Record
             (each_set (OfUpTo last) (held f) i (on_named calendar today f r o).order h.submitters done.order);
         notices = done.all;
       }
-  place_names Nothing = record { file = h; notices = tt }
+  place_names None = record { file = h; notices = tt }
 
   new_names : is kind_new_order r ≡ true → LeavesUpTo last (ordered calendar today f r)
   unfolding ordered
@@ -285,14 +283,14 @@ module _ (last : ℕ) (calendar : List ℕ) (today : ℕ) (f : File) (r : Record
 
 effect_names : (last : ℕ) (width : File → ℕ) (calendar : List ℕ) (today : ℕ) (file : Option File) (r : Record) → NamesUpTo last r
     → Held (RetailersUpTo last) file → GivesUpTo last (effect_on_with width calendar today file r)
-effect_names last width calendar today none r n h =
+effect_names last width calendar today None r n h =
     by_test (GivesUpTo last) (is kind_create r) _ _
     (λ e. record {
       file = record { retailer = n (other_kind kind_create r (λ d. omega (arith, d)) e); agreement = omega arith; submitters = tt };
       notices = tt;
     })
     (λ e. record { file = tt; notices = tt })
-effect_names last width calendar today (some f) r n h =
+effect_names last width calendar today (Some f) r n h =
     by_test (GivesUpTo last) (is kind_retire r) _ _ (λ e. record { file = tt; notices = tt })
     (λ e. by_test (GivesUpTo last) (is kind_day_mark r) _ _
     (λ d. let left = mark_makes_no_retailer last width calendar r.day f h in record { file = left.file; notices = left.notices })

@@ -2,7 +2,7 @@
 use Prim.Native.Nat.{ℕ, ◌≤◌, ◌<◌}
 use mathlib.Core.Path.{◌≡◌}
 use mathlib.Core.List.{List}
-use mathlib.Core.Option.{some}
+use Rattle.std.specs.Prelude.{Some}
 use mathlib.Core.Bool.{true}
 use native.Mathlib.Omega.{arith}
 use lib.Dec.{eqb}
@@ -22,8 +22,8 @@ pub held_most : (f : File) → f.count ≤ most_orders → length (held f) ≤ m
 held_most f h = omega (arith, length-take f.count f.orders)
 
 pub accepted_room : (calendar : List ℕ) (today : ℕ) (f : File) (r : Record) → f.count ≤ most_orders
-    → eqb (number (first_row (rows calendar today (some f) r))) 0 ≡ true → is kind_new_order r ≡ true
+    → eqb (number (first_row (rows calendar today (Some f) r))) 0 ≡ true → is kind_new_order r ≡ true
     → length (make_room (held f)) < most_orders
 accepted_room calendar today f r h e new =
     room_few (held f) (held_most f h)
-    (and_other (is kind_new_order r) (eqb (count_of is_open (held f)) most_orders) (no_row calendar today (some f) r e).stack_full new)
+    (and_other (is kind_new_order r) (eqb (count_of is_open (held f)) most_orders) (no_row calendar today (Some f) r e).stack_full new)

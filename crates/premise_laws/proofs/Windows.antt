@@ -2,11 +2,9 @@
 use Prim.Native.Nat.{ℕ}
 use mathlib.Core.Path.{◌≡◌, refl, ap, ap₂, ◌∙◌}
 use mathlib.Core.List.{List, [], ◌++◌}
-use mathlib.Core.Option.{Option, none, some}
+use Rattle.std.specs.Prelude.{Option, Some, None}
 use mathlib.Core.Bool.{cond, not, ◌&&◌}
 use lib.Dec.{eqb, leb}
-use Rattle.lists.specs.declared.Found.{Found}
-use Rattle.lists.specs.declared.Found.TheVariants.{At, Nothing}
 use Rattle.lists.proofs.TestLaws.{by_test}
 use Rattle.days.specs.Window.{in_window}
 use Rattle.records.specs.declared.Record.{Record}
@@ -36,10 +34,10 @@ module _ (calendar : List ℕ) (today : ℕ) (f : File) (r : Record) where
       by_test (OfWidth f.window) (is kind_read r && has_status scheduled o && leb f.since r.day && not (is_held_off f r o)) _ f
       (λ e. refl) (λ e. refl)
 
-  named_leaves : (place : Found) → Leaves (at_place calendar today f r place)
+  named_leaves : (place : Option ℕ) → Leaves (at_place calendar today f r place)
   unfolding changed
-  named_leaves (At i) = supplied_leaves (order_at (held f) (At i))
-  named_leaves Nothing = refl
+  named_leaves (Some i) = supplied_leaves (order_at (held f) (Some i))
+  named_leaves None = refl
 
   -- kinds 3 to 9 and 11
   abbrev done : Effect
@@ -68,7 +66,7 @@ mark_leaves_width width calendar today f = refl
 pub step_leaves_width : StepLeavesWidth
 unfolding step_with
 step_leaves_width width calendar today f r =
-    by_test (Gives f.window) (eqb (number (first_row (rows_with width calendar today (some f) r))) 0) _ _
+    by_test (Gives f.window) (eqb (number (first_row (rows_with width calendar today (Some f) r))) 0) _ _
     (λ e. by_test (Gives f.window) (is kind_retire r) _ _ (λ t. tt)
     (λ t. by_test (Gives f.window) (is kind_day_mark r) _ _ (λ d. mark_leaves_width width calendar r.day f)
     (λ d. record_leaves calendar today f r width)))
@@ -77,7 +75,7 @@ step_leaves_width width calendar today f r =
 pub create_gives_width : CreateGivesWidth
 unfolding step_with
 create_gives_width width calendar today r =
-    by_test (Gives (width_for r.detail)) (eqb (number (first_row (rows_with width calendar today none r))) 0) _ _
+    by_test (Gives (width_for r.detail)) (eqb (number (first_row (rows_with width calendar today None r))) 0) _ _
     (λ e. by_test (Gives (width_for r.detail)) (is kind_create r) _ _ (λ c. refl) (λ c. tt))
     (λ e. tt)
 
@@ -97,15 +95,15 @@ unfolding marked_with
 mark_of_width n calendar today f e = followed_of n calendar today (on_file f (clock calendar today f.premise (held f))) e
 
 pub rows_of_width : RowsOfWidth
-rows_of_width n calendar today none r h = refl
-rows_of_width n calendar today (some f) r h = ap (λ (width : ℕ). order_rows width calendar today (held f) r) h
+rows_of_width n calendar today None r h = refl
+rows_of_width n calendar today (Some f) r h = ap (λ (width : ℕ). order_rows width calendar today (held f) r) h
 
 effect_of : (n : ℕ) (calendar : List ℕ) (today : ℕ) (file : Option File) (r : Record) → Held (OfWidth n) file
     → effect_on_with kept_width calendar today file r ≡ effect_on_with (always n) calendar today file r
 unfolding stepped_with
-effect_of n calendar today none r h = refl
-effect_of n calendar today (some f) r h =
-    ap₂ (λ (mark step : Effect). cond (is kind_retire r) (accepted [] (record { today = today; file = none }))
+effect_of n calendar today None r h = refl
+effect_of n calendar today (Some f) r h =
+    ap₂ (λ (mark step : Effect). cond (is kind_retire r) (accepted [] (record { today = today; file = None }))
     (cond (is kind_day_mark r) (leaving r.day mark) (leaving today (cond (is kind_agreement r) (agreed f r) step))))
     (mark_of_width n calendar r.day f h)
     (followed_of n calendar today (done calendar today f r) (done_leaves calendar today f r ∙ h))

@@ -1,7 +1,7 @@
 -- Document 02, change 13, "Every order comes to one end": what an accepted record makes of the order with a reference; proofs/Endings.antt
 -- proves it.
 use Rattle.std.specs.Prelude.{ℕ, ◌≡◌, ◌⊎◌, List, [], ◌∷◌, Bool, true, false, cond, ◌||◌, eqb, length}
-use Rattle.std.proofs.Math.Option.{Option, none, some}
+use Rattle.std.specs.Prelude.{Option, Some, None}
 use Rattle.days.specs.Days.{no_day, is_business_day}
 use Rattle.records.specs.declared.Record.{Record}
 use Rattle.records.specs.Records.{kind_retire, kind_new_order, kind_day_mark, well_formed}
@@ -16,8 +16,8 @@ use Rattle.premise_laws.specs.Laws.{Held, KeptFor}
 -- ---- an order among others
 -- the oldest that passes a test, or none
 abbrev pub oldest_with : (Order → Bool) → List Order → Option Order
-oldest_with p [] = none
-oldest_with p (o ∷ os) = cond (p o) (some o) (oldest_with p os)
+oldest_with p [] = None
+oldest_with p (o ∷ os) = cond (p o) (Some o) (oldest_with p os)
 
 -- the order with a reference; the oldest closed one
 abbrev pub order_in : ℕ → List Order → Option Order
@@ -27,8 +27,8 @@ abbrev pub oldest_closed : List Order → Option Order
 oldest_closed os = oldest_with is_closed os
 
 abbrev pub is_there : Option Order → Bool
-is_there none = false
-is_there (some o) = true
+is_there None = false
+is_there (Some o) = true
 
 -- In Review or Cancel Pending without a scheduled day: no evaluation touches such an order, and no record that does not name it; only the
 -- clock does.
@@ -47,7 +47,7 @@ pub record Comes (calendar : List ℕ) (today : ℕ) (r : Record) (reference : �
 pub record Drops (os : List Order) (r : Record) (o : Order) : Type 0 where
   pub kind : is kind_new_order r ≡ true
   pub full : length os ≡ most_orders
-  pub oldest : oldest_closed os ≡ some o
+  pub oldest : oldest_closed os ≡ Some o
 
 -- .. "or its premise retired". Only a closed order goes.
 pub record Goes (os : List Order) (r : Record) (o : Order) : Type 0 where
@@ -62,10 +62,10 @@ pub record Stays (calendar : List ℕ) (premise : ℕ) (r : Record) (reference :
 
 -- by whether it was there among some orders, and is there afterwards
 abbrev pub Becomes : List ℕ → ℕ → ℕ → Record → ℕ → List Order → Option Order → Option Order → Type 0
-Becomes calendar today premise r reference os none none = Unit {0}
-Becomes calendar today premise r reference os none (some o) = Comes calendar today r reference o
-Becomes calendar today premise r reference os (some o) none = Goes os r o
-Becomes calendar today premise r reference os (some o) (some after) = Stays calendar premise r reference o after
+Becomes calendar today premise r reference os None None = Unit {0}
+Becomes calendar today premise r reference os None (Some o) = Comes calendar today r reference o
+Becomes calendar today premise r reference os (Some o) None = Goes os r o
+Becomes calendar today premise r reference os (Some o) (Some after) = Stays calendar premise r reference o after
 
 -- Every accepted record does one of these, on a premise's well_kept file or none.
 abbrev pub StepOnOrder : Type 0

@@ -1,7 +1,7 @@
 -- What the layer above relies on about the steps of one premise, as statements; proofs/ proves each: every step leaves a well_kept file, in
 -- which no retailer has more open orders than its share where none had, tells of that premise alone, and gives few notices.
 use Rattle.std.specs.Prelude.{ℕ, ◌+◌, ◌*◌, ◌≤◌, ◌≡◌, List, true, false, length}
-use Rattle.std.proofs.Math.Option.{Option, none, some}
+use Rattle.std.specs.Prelude.{Option, Some, None}
 use Rattle.lists.specs.Search.{Each}
 use Rattle.records.specs.declared.Record.{Record}
 use Rattle.records.specs.declared.Notice.{Notice}
@@ -14,8 +14,8 @@ use Rattle.premise.specs.OnePremise.{State, marked, step}
 
 -- a property of the file, where there is one
 abbrev pub Held : (File → Type 0) → Option File → Type 0
-Held P none = Unit {0}
-Held P (some f) = P f
+Held P None = Unit {0}
+Held P (Some f) = P f
 
 -- ---- well kept
 -- a file is of a premise and well kept

@@ -1,7 +1,7 @@
 -- Document 02, change 2, "A window per premise": which width a file has after a step, and that on files of one width the rules by the kept
 -- width are those with that width throughout; proofs/Windows.antt proves each.
 use Rattle.std.specs.Prelude.{ℕ, ◌≡◌, List}
-use Rattle.std.proofs.Math.Option.{Option, none, some}
+use Rattle.std.specs.Prelude.{Option, Some, None}
 use Rattle.records.specs.declared.Record.{Record}
 use Rattle.premise.specs.declared.File.{File}
 use Rattle.premise.specs.Orders.{kept_width, always}
@@ -19,13 +19,13 @@ OfWidth n f = f.window ≡ n
 abbrev pub StepLeavesWidth : Type 0
 StepLeavesWidth =
     (width : File → ℕ) (calendar : List ℕ) (today : ℕ) (f : File) (r : Record)
-    → Held (OfWidth f.window) (step_with width calendar (record { today = today; file = some f }) r).state.file
+    → Held (OfWidth f.window) (step_with width calendar (record { today = today; file = Some f }) r).state.file
 
 -- .. and the file that it makes where there was none has its detail, 2 for 0.
 abbrev pub CreateGivesWidth : Type 0
 CreateGivesWidth =
     (width : File → ℕ) (calendar : List ℕ) (today : ℕ) (r : Record)
-    → Held (OfWidth (width_for r.detail)) (step_with width calendar (record { today = today; file = none }) r).state.file
+    → Held (OfWidth (width_for r.detail)) (step_with width calendar (record { today = today; file = None }) r).state.file
 
 abbrev pub MarkLeavesWidth : Type 0
 MarkLeavesWidth =

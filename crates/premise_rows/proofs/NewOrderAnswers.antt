@@ -1,60 +1,23 @@
--- The answer to a new order, by the tests that were made: one law for each row, and what acceptance says. Assumes nothing.
+-- The answer to a new order: what acceptance says, and that its rows are those of the table. Assumes nothing.
 use Prim.Native.Nat.{ℕ}
 use mathlib.Core.Path.{◌≡◌, refl, sym, ap, ◌∙◌}
 use mathlib.Core.List.{List, [], ◌∷◌}
-use mathlib.Core.Option.{some}
+use Rattle.std.specs.Prelude.{Some}
 use mathlib.Core.Bool.{Bool, true, false, cond, not, ◌&&◌}
 use lib.Dec.{eqb, leb}
 use Rattle.lists.specs.Search.{count_of}
-use Rattle.lists.specs.declared.Found.TheVariants.{At, Nothing}
 use Rattle.days.specs.Days.{no_day, switch_date}
 use Rattle.records.specs.declared.Record.{Record}
 use Rattle.records.specs.Records.{kind_new_order, standard_switch}
 use Rattle.premise.specs.declared.Order.{Order}
 use Rattle.premise.specs.declared.File.{File}
-use Rattle.premise.specs.declared.Answer.{Answer}
-use Rattle.premise.specs.declared.Answer.TheVariants.{Accepted, ReferenceHeld, DayOutOfRange, NoSwitchDate, NotFirstIn}
-use Rattle.premise.specs.declared.Answer.TheVariants.{RetailerShareFull, StackFull}
+use Rattle.premise.specs.Refusals.{Answer}
+use Rattle.premise.specs.declared.Refusal.TheVariants.{ReferenceHeld, DayOutOfRange, NoSwitchDate, NotFirstIn, RetailerShareFull, StackFull}
 use Rattle.premise.specs.Orders.{most_orders, most_of_one, is_open, open_of, held}
 use Rattle.premise.specs.Steps.{requested_day, named}
 use Rattle.premise.specs.FirstIn.{not_first_in}
 use Rattle.premise.specs.Refusals.{number, row, first_row, premise_rows, order_rows, rows, limited, out_of_range, is_nothing}
 use Rattle.premise_rows.specs.NewOrderRows.{order_answer}
-
--- ---- row by row
-module _ (today : ℕ) (os : List Order) (r : Record) (requested : ℕ) where
-  pub answer_held : (i : ℕ) → named r os ≡ At i → ReferenceHeld ≡ order_answer today os r requested
-  unfolding order_answer
-  answer_held i n = rw n
-
-  module _ (n : named r os ≡ Nothing) where
-    pub answer_far : (limited r.detail && out_of_range today requested) ≡ true → DayOutOfRange ≡ order_answer today os r requested
-    unfolding order_answer
-    answer_far h = rw (n, h)
-
-    module _ (near : (limited r.detail && out_of_range today requested) ≡ false) where
-      pub answer_dateless : (eqb r.detail standard_switch && eqb requested no_day) ≡ true → NoSwitchDate ≡ order_answer today os r requested
-      unfolding order_answer
-      answer_dateless h = rw (n, near, h)
-
-      module _ (dated : (eqb r.detail standard_switch && eqb requested no_day) ≡ false) where
-        pub answer_late : not_first_in r.detail requested os ≡ true → NotFirstIn ≡ order_answer today os r requested
-        unfolding order_answer
-        answer_late h = rw (n, near, dated, h)
-
-        module _ (first : not_first_in r.detail requested os ≡ false) where
-          pub answer_share : leb most_of_one (open_of r.retailer os) ≡ true → RetailerShareFull ≡ order_answer today os r requested
-          unfolding order_answer
-          answer_share h = rw (n, near, dated, first, h)
-
-          module _ (few : leb most_of_one (open_of r.retailer os) ≡ false) where
-            pub answer_full : eqb (count_of is_open os) most_orders ≡ true → StackFull ≡ order_answer today os r requested
-            unfolding order_answer
-            answer_full h = rw (n, near, dated, first, few, h)
-
-            pub answer_accepted : eqb (count_of is_open os) most_orders ≡ false → Accepted ≡ order_answer today os r requested
-            unfolding order_answer
-            answer_accepted h = rw (n, near, dated, first, few, h)
 
 -- ---- an accepted order finds room
 pub accepted_free : (today : ℕ) (os : List Order) (r : Record) (requested : ℕ) → eqb (number (order_answer today os r requested)) 0 ≡ true
@@ -109,7 +72,7 @@ rows_with today os r requested missing =
 
 pub order_answer_lem : (calendar : List ℕ) (today : ℕ) (f : File) (r : Record) → r.kind ≡ kind_new_order → (requested : ℕ)
     → requested ≡ requested_day calendar today r
-    → first_row (rows calendar today (some f) r) ≡ order_answer today (held f) r requested
+    → first_row (rows calendar today (Some f) r) ≡ order_answer today (held f) r requested
 unfolding premise_rows order_rows order_answer
 order_answer_lem calendar today f r e requested q =
     (rw e)

@@ -3,8 +3,8 @@ use Rattle.std.specs.Prelude.{ℕ, [], ◌∷◌, Bool, not, ◌&&◌, eqb}
 use Rattle.records.specs.declared.Record.{Record}
 use Rattle.records.specs.Records.{kind_cancel, kind_date_change}
 use Rattle.premise.specs.declared.Order.{Order}
-use Rattle.premise.specs.declared.Answer.{Answer}
-use Rattle.premise.specs.declared.Answer.TheVariants.{NoSuchOrder, StatusNotTaken, CounterNotAbove, OrderInWindow}
+use Rattle.premise.specs.Refusals.{Answer}
+use Rattle.premise.specs.declared.Refusal.TheVariants.{NoSuchOrder, StatusNotTaken, CounterNotAbove, OrderInWindow}
 use Rattle.premise.specs.Orders.{scheduled, has_status}
 use Rattle.premise.specs.Steps.{is, taken}
 use Rattle.premise.specs.Refusals.{row, first_row, not_above}

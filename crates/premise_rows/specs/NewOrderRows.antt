@@ -5,9 +5,8 @@ use Rattle.days.specs.Days.{no_day}
 use Rattle.records.specs.declared.Record.{Record}
 use Rattle.records.specs.Records.{standard_switch}
 use Rattle.premise.specs.declared.Order.{Order}
-use Rattle.premise.specs.declared.Answer.{Answer}
-use Rattle.premise.specs.declared.Answer.TheVariants.{ReferenceHeld, DayOutOfRange, NoSwitchDate, NotFirstIn, RetailerShareFull}
-use Rattle.premise.specs.declared.Answer.TheVariants.{StackFull}
+use Rattle.premise.specs.Refusals.{Answer}
+use Rattle.premise.specs.declared.Refusal.TheVariants.{ReferenceHeld, DayOutOfRange, NoSwitchDate, NotFirstIn, RetailerShareFull, StackFull}
 use Rattle.premise.specs.Orders.{most_orders, most_of_one, is_open, open_of}
 use Rattle.premise.specs.Steps.{named}
 use Rattle.premise.specs.FirstIn.{not_first_in}

@@ -1,10 +1,8 @@
 // Whether a new order is not first in, by table 11.1 and the rule on standard switches.
 ghost use Rattle.std.specs.Prelude.{◌≡◌};
-ghost use Rattle.premise.specs.Orders.{held};
 ghost use Rattle.premise.specs.FirstIn.{refuses, stands_in_way, not_first_in};
-ghost use Rattle.premise.specs.WellKept.{Tidy};
 
-use premise::{File, Order};
+use premise::Order;
 use records::order_kind;
 
 // Table 11.1, of one premise: a row for each kind of a Scheduled order, a column for each kind of a new one; 1 refuses.
@@ -48,19 +46,17 @@ fn stands_in_way(o: Order, new: u8, requested: u16) -> bool
             & (requested <= scheduled))
 }
 
-// Whether a new order is not first in: the search is left at the first order that stands in the way.
-pub fn not_first_in(file: File, new: u8, requested: u16) -> bool
-    requires { Tidy file }
-    ensures { result ≡ not_first_in new requested (held file) }
+// Whether a new order is not first in: the search is left at the first order that stands in the way. (The loop with its labelled exit is
+// document 01's form.)
+pub fn not_first_in(orders: &[Order], new: u8, requested: u16) -> bool
+    ensures { result ≡ not_first_in new requested orders.now }
 {
-    let n = file.count;
     let mut i: usize = 0;
     'orders: loop {
-        if n <= i {
+        if orders.len() <= i {
             break 'orders false;
         }
-        let o = file.orders[i];
-        if stands_in_way(o, new, requested) {
+        if stands_in_way(orders[i], new, requested) {
             break 'orders true;
         }
         i += 1;

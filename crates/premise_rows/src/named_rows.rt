@@ -6,7 +6,7 @@ ghost use Rattle.premise.specs.Steps.{taken};
 ghost use Rattle.premise.specs.WellKept.{Tidy};
 ghost use Rattle.premise_rows.specs.NamedRows.{named_answer};
 
-use premise::{Answer, CANCEL_PENDING, File, IN_REVIEW, Order, PERMIT_PENDING, SCHEDULED};
+use premise::{Answer, CANCEL_PENDING, File, IN_REVIEW, Order, PERMIT_PENDING, Refusal, SCHEDULED};
 use records::{Record, order_kind, record_kind};
 
 // Row 14: whether a record is taken by the order that it names.
@@ -20,7 +20,7 @@ fn is_taken(r: Record, o: Order) -> bool
             | (status == PERMIT_PENDING)
             | (status == CANCEL_PENDING),
         record_kind::PERMIT => (o.kind == order_kind::MOVE_IN) & (status == IN_REVIEW),
-        record_kind::UNEXECUTABLE => premise_file::is_open(o),
+        record_kind::UNEXECUTABLE => premise_file::is_open(&o),
         record_kind::READ => (status == SCHEDULED) | (status == PERMIT_PENDING),
         record_kind::CANCEL => (status == IN_REVIEW)
             | (status == PERMIT_PENDING)
@@ -35,22 +35,22 @@ fn is_taken(r: Record, o: Order) -> bool
 
 // The answer to a record that names the order at a place. Row 13, another retailer's cancel; row 14; of a date change row 16, a counter
 // not above the order's, and row 17, an order that is Scheduled up to the last day in window; in their order.
-pub fn named_answer(last: u16, file: File, r: Record, i: usize) -> Answer
-    requires { Tidy file × (i < file.count) }
-    ensures { result ≡ named_answer (up_to last) r (get_or (held file) i blank) }
+pub fn named_answer(last: u16, file: &File, r: Record, i: usize) -> Answer
+    requires { Tidy file.now × (i < file.now.count) }
+    ensures { result ≡ named_answer (up_to last) r (get_or (held file.now) i blank) }
 {
     let o = file.orders[i];
     if (r.kind == record_kind::CANCEL) & (r.retailer != o.submitter) {
-        return Answer::NoSuchOrder;
+        return Err(Refusal::NoSuchOrder);
     }
     if !is_taken(r, o) {
-        return Answer::StatusNotTaken;
+        return Err(Refusal::StatusNotTaken);
     }
     if (r.kind == record_kind::DATE_CHANGE) & (r.retailer <= o.counter) {
-        return Answer::CounterNotAbove;
+        return Err(Refusal::CounterNotAbove);
     }
     if (r.kind == record_kind::DATE_CHANGE) & (o.status == SCHEDULED) & (o.scheduled <= last) {
-        return Answer::OrderInWindow;
+        return Err(Refusal::OrderInWindow);
     }
-    Answer::Accepted
+    Ok(())
 }

@@ -5,8 +5,7 @@ ghost use Rattle.premise.specs.Refusals.{limited, out_of_range};
 ghost use Rattle.premise.specs.WellKept.{Tidy};
 ghost use Rattle.premise_rows.specs.NewOrderRows.{order_answer};
 
-use lists::Found;
-use premise::{Answer, File};
+use premise::{Answer, File, Refusal};
 use records::{Record, order_kind};
 
 // Row 9: how many days ahead of today, and back, an order may be requested for.
@@ -27,32 +26,30 @@ fn is_too_far(today: u16, kind: u8, requested: u16) -> bool
 }
 
 // The answer to a new order for a day: rows 8 to 11, 26 and 12, in their order.
-pub fn new_order_answer(today: u16, file: File, r: Record, requested: u16) -> Answer
-    requires { Tidy file }
-    ensures { result ≡ order_answer today (held file) r requested }
+#[tactic(auto, unfolding(crate::specs::NewOrderRows::order_answer))]
+pub fn new_order_answer(today: u16, file: &File, r: Record, requested: u16) -> Answer
+    requires { Tidy file.now }
+    ensures { result ≡ order_answer today (held file.now) r requested }
 {
     let kind = r.detail;
-    let holder = premise_file::find(file, r.reference);
-    match holder {
-        Found::At(_) => {
-            return Answer::ReferenceHeld;
-        }
-        Found::Nothing => {}
+    let orders = file.held();
+    if premise_file::find(orders, r.reference).is_some() {
+        return Err(Refusal::ReferenceHeld);
     }
     if is_too_far(today, kind, requested) {
-        return Answer::DayOutOfRange;
+        return Err(Refusal::DayOutOfRange);
     }
     if (kind == order_kind::STANDARD_SWITCH) & (requested == days::NO_DAY) {
-        return Answer::NoSwitchDate;
+        return Err(Refusal::NoSwitchDate);
     }
-    if crate::first_in::not_first_in(file, kind, requested) {
-        return Answer::NotFirstIn;
+    if crate::first_in::not_first_in(orders, kind, requested) {
+        return Err(Refusal::NotFirstIn);
     }
-    if premise_file::is_share_full(file, r.retailer) {
-        return Answer::RetailerShareFull;
+    if premise_file::is_share_full(orders, r.retailer) {
+        return Err(Refusal::RetailerShareFull);
     }
-    if premise_file::is_full(file) {
-        return Answer::StackFull;
+    if premise_file::is_full(orders) {
+        return Err(Refusal::StackFull);
     }
-    Answer::Accepted
+    Ok(())
 }

@@ -1,33 +1,44 @@
 // The number that the table of refusals gives each answer, for whoever prints or stores one.
-ghost use Rattle.std.specs.Prelude.{◌≡◌};
+ghost use Rattle.std.specs.Prelude.{◌≡◌, Err};
 ghost use Rattle.premise.specs.Refusals.{number};
 
-use premise::Answer;
+use premise::{Answer, Refusal};
+
+// The number of the row that refuses.
+#[tactic(auto, unfolding(premise::specs::Refusals::number))]
+fn row_of(refusal: Refusal) -> u8
+    ensures { result ≡ number (Err refusal) }
+{
+    match refusal {
+        Refusal::ShortBuffer => 1,
+        Refusal::NotWellKept => 2,
+        Refusal::MalformedRecord => 3,
+        Refusal::NoSuchPremise => 4,
+        Refusal::OtherAgreement => 18,
+        Refusal::PremiseHeld => 5,
+        Refusal::BookFull => 6,
+        Refusal::OrderOpen => 7,
+        Refusal::ReferenceHeld => 8,
+        Refusal::DayOutOfRange => 9,
+        Refusal::NoSwitchDate => 10,
+        Refusal::NotFirstIn => 11,
+        Refusal::RetailerShareFull => 26,
+        Refusal::StackFull => 12,
+        Refusal::NoSuchOrder => 13,
+        Refusal::StatusNotTaken => 14,
+        Refusal::CounterNotAbove => 16,
+        Refusal::OrderInWindow => 17,
+        Refusal::NotNextDay => 15,
+    }
+}
 
 // The number of an answer.
+#[tactic(auto, unfolding(premise::specs::Refusals::number))]
 pub fn number_of(answer: Answer) -> u8
     ensures { result ≡ number answer }
 {
     match answer {
-        Answer::Accepted => 0,
-        Answer::ShortBuffer => 1,
-        Answer::NotWellKept => 2,
-        Answer::MalformedRecord => 3,
-        Answer::NoSuchPremise => 4,
-        Answer::OtherAgreement => 18,
-        Answer::PremiseHeld => 5,
-        Answer::BookFull => 6,
-        Answer::OrderOpen => 7,
-        Answer::ReferenceHeld => 8,
-        Answer::DayOutOfRange => 9,
-        Answer::NoSwitchDate => 10,
-        Answer::NotFirstIn => 11,
-        Answer::RetailerShareFull => 26,
-        Answer::StackFull => 12,
-        Answer::NoSuchOrder => 13,
-        Answer::StatusNotTaken => 14,
-        Answer::CounterNotAbove => 16,
-        Answer::OrderInWindow => 17,
-        Answer::NotNextDay => 15,
+        Ok(()) => 0,
+        Err(refusal) => row_of(refusal),
     }
 }

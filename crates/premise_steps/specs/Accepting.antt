@@ -9,18 +9,19 @@ use Rattle.premise.specs.Steps.{requested_day, ordered, changed}
 use Rattle.premise.specs.OnePremise.{followed}
 use Rattle.premise.specs.Evaluation.{evaluated}
 use Rattle.premise.specs.WellKept.{Tidy}
-use Rattle.premise.specs.Promises.{Room}
+use Rattle.premise_notices.specs.declared.outbox.Outbox.{Outbox}
+use Rattle.premise_notices.specs.Outboxes.{RoomIn}
 
 -- a record that names an order, on the order at a place, with the last day in window
-pub record AtPlace (calendar : List ℕ) (today last : ℕ) (f : File) (r : Record) (i standing : ℕ) (buffer : List ℕ) : Type 0 where
+pub record AtPlace (calendar : List ℕ) (today last : ℕ) (f : File) (r : Record) (i : ℕ) (out : Outbox) : Type 0 where
   pub tidy : Tidy f
   pub within : i < f.count
-  pub room : Room standing (followed (changed calendar today f r i (get_or (held f) i blank)) (evaluated calendar today)).notices buffer
+  pub room : RoomIn out (followed (changed calendar today f r i (get_or (held f) i blank)) (evaluated calendar today)).notices
   pub window : LastInWindow calendar f.window today last
 
 -- a new order, which finds a place on the stack and whose requested day is known
-pub record WithPlace (calendar : List ℕ) (today : ℕ) (f : File) (r : Record) (requested standing : ℕ) (buffer : List ℕ) : Type 0 where
+pub record WithPlace (calendar : List ℕ) (today : ℕ) (f : File) (r : Record) (requested : ℕ) (out : Outbox) : Type 0 where
   pub tidy : Tidy f
   pub place : eqb (count_of is_open (held f)) most_orders ≡ false
   pub day : requested ≡ requested_day calendar today r
-  pub room : Room standing (followed (ordered calendar today f r) (evaluated calendar today)).notices buffer
+  pub room : RoomIn out (followed (ordered calendar today f r) (evaluated calendar today)).notices

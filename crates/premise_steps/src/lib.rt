@@ -6,7 +6,6 @@ mod agreement;
 mod day_mark;
 mod named;
 mod new_order;
-mod replies;
 mod step;
 
 pub use day_mark::{mark, mark_changes_file};

@@ -1,19 +1,18 @@
 // A record that names an order (kinds 4 to 9 and 11) on a file: which row refuses it, what it does to that order, and the evaluation that
 // ends it.
 ghost use Rattle.std.specs.Prelude.{◌≡◌, true, get_or};
-ghost use Rattle.std.proofs.Math.Option.{some};
-ghost use Rattle.lists.specs.declared.Found.TheVariants.{At};
+ghost use Rattle.std.specs.Prelude.{Some};
 ghost use Rattle.premise.specs.Orders.{blank, held};
 ghost use Rattle.premise.specs.Steps.{named, changed};
 ghost use Rattle.premise.specs.Refusals.{names_order};
 ghost use Rattle.premise.specs.OnePremise.{followed, given_on};
 ghost use Rattle.premise.specs.Evaluation.{evaluated};
-ghost use Rattle.premise.specs.Promises.{DoneToFile, Answered, OnFile};
+ghost use Rattle.premise_notices.specs.Outboxes.{DoneToFile};
 ghost use Rattle.premise_steps.specs.Accepting.{AtPlace};
+ghost use Rattle.premise_steps.specs.Answered.{Answered, OnFile};
 
-use crate::replies::{is_refusal, reply};
-use lists::Found;
-use premise::{Answer, File, FileAfter, PremiseAfter};
+use premise::{Answer, File, Refusal};
+use premise_notices::Outbox;
 use records::Record;
 
 // An accepted record that names the order at a place: the order changes, and the file is evaluated.
@@ -21,68 +20,51 @@ fn accept_named(
     calendar: &[u8],
     today: u16,
     last: u16,
-    file: File,
+    file: &mut File,
     r: Record,
     i: usize,
-    standing: usize,
-    buffer: &mut [u8],
-) -> FileAfter
-    requires { AtPlace calendar.now today last file r i standing buffer.old }
+    out: &mut Outbox,
+)
+    requires { AtPlace calendar.now today last file.old r i out.old }
     ensures { DoneToFile
-        (followed (changed calendar.now today file r i (get_or (held file) i blank)) (evaluated calendar.now today))
-        standing result buffer.old buffer.new }
+        (followed (changed calendar.now today file.old r i (get_or (held file.old) i blank)) (evaluated calendar.now today))
+        file.new out.old out.new }
 {
     let o = file.orders[i];
-    let s = premise_effects::change_order(calendar, today, file, r, o, standing, buffer);
-    let t = s.order;
-    let f = premise_effects::supply(file, r, o);
-    let g = premise_file::with_order(f, i, t);
-    premise_evaluation::evaluate(calendar, today, last, g, s.sent, buffer)
+    let t = premise_effects::change_order(calendar, today, file, r, o, out);
+    premise_effects::supply(file, r, o);
+    premise_file::with_order(file, i, t);
+    premise_evaluation::evaluate(calendar, today, last, file, out);
 }
 
 // A record that names the order at a place of a file: rows 13, 14, 16 and 17, then acceptance.
 fn on_order(
     calendar: &[u8],
     today: u16,
-    file: File,
+    file: &mut File,
     r: Record,
     i: usize,
-    standing: usize,
-    buffer: &mut [u8],
-) -> PremiseAfter
-    requires on_file { OnFile calendar.now today file r standing buffer.old }
-    requires r_value { names_order r ≡ true }
-    requires file_value { named r (held file) ≡ At i }
-    ensures { Answered (given_on calendar.now today (some file) r)
-        standing result buffer.old buffer.new }
+    out: &mut Outbox,
+) -> Answer
+    requires on_file { OnFile calendar.now today file.old r out.old }
+    requires names_an_order { names_order r ≡ true }
+    requires is_at { named r (held file.old) ≡ Some i }
+    ensures { Answered (given_on calendar.now today (Some file.old) r) result file.new out.old out.new }
 {
     let last = days::last_in_window(calendar, file.window, today);
-    let answer = premise_rows::named_answer(last, file, r, i);
-    if is_refusal(answer) {
-        return reply(answer, file, standing);
-    }
-    let p = accept_named(calendar, today, last, file, r, i, standing, buffer);
-    let g = p.file;
-    reply(Answer::Accepted, g, p.sent)
+    premise_rows::named_answer(last, file, r, i)?;
+    accept_named(calendar, today, last, file, r, i, out);
+    Ok(())
 }
 
 // A record that names an order, on a file: row 13 where no order has the reference, else the order that has it.
-pub fn on_named(
-    calendar: &[u8],
-    today: u16,
-    file: File,
-    r: Record,
-    standing: usize,
-    buffer: &mut [u8],
-) -> PremiseAfter
-    requires on_file { OnFile calendar.now today file r standing buffer.old }
-    requires r_value { names_order r ≡ true }
-    ensures { Answered (given_on calendar.now today (some file) r)
-        standing result buffer.old buffer.new }
+pub fn on_named(calendar: &[u8], today: u16, file: &mut File, r: Record, out: &mut Outbox) -> Answer
+    requires on_file { OnFile calendar.now today file.old r out.old }
+    requires names_an_order { names_order r ≡ true }
+    ensures { Answered (given_on calendar.now today (Some file.old) r) result file.new out.old out.new }
 {
-    let found = premise_file::find(file, r.reference);
-    match found {
-        Found::Nothing => reply(Answer::NoSuchOrder, file, standing),
-        Found::At(i) => on_order(calendar, today, file, r, i, standing, buffer),
-    }
+    let Some(i) = premise_file::find(file.held(), r.reference) else {
+        return Err(Refusal::NoSuchOrder);
+    };
+    on_order(calendar, today, file, r, i, out)
 }

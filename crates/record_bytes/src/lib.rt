@@ -9,5 +9,5 @@ mod reading;
 mod well_formed;
 
 pub use notice::write_notice;
-pub use numbers::{eight, four, two, wide};
+pub use numbers::{eight, four, two};
 pub use reading::{read_notice, read_record};

@@ -6,21 +6,17 @@ ghost use Rattle.records.specs.Notices.{decode};
 
 use crate::fields::fields_of;
 use crate::well_formed::well_formed;
-use records::{Notice, RECORD_LENGTH, Reading};
+use records::{Notice, RECORD_LENGTH, Record};
 
 // What the bytes of a record say, by the bytes alone. Every length and every byte is answered.
-pub fn read_record(bytes: &[u8]) -> Reading
+pub fn read_record(bytes: &[u8]) -> Option<Record>
     ensures { result ≡ reading bytes.now }
 {
     if bytes.len() != RECORD_LENGTH {
-        return Reading::Malformed;
+        return None;
     }
     let record = fields_of(bytes);
-    if well_formed(record) {
-        Reading::Says(record)
-    } else {
-        Reading::Malformed
-    }
+    well_formed(record).then_some(record)
 }
 
 // The notice in the first 24 bytes; those behind them are not looked at. It has the record's layout, so its fields are a record's by

@@ -1,4 +1,5 @@
-// Whether a record's fields are in range for its kind, and the unused ones zero. The tests of a kind have no branch.
+// Whether a record's fields are in range for its kind, and the unused ones zero. The tests of a kind have no branch: they are joined by
+// `&`, and no range is asked whether it contains a number.
 ghost use Rattle.std.specs.Prelude.{◌≡◌, ◌≤◌};
 ghost use Rattle.records.specs.Records.{well_formed, kind_scheduled, kind_reply, order_day, a_retailer};
 ghost use Rattle.records.specs.Kinds.{dated_holds};
@@ -72,10 +73,10 @@ fn order_day_holds(kind: u8, day: u16) -> bool
     }
 }
 
-// Dispatch on the record kind. A create uses the detail, its window, the day, the premise, and a retailer or none; a retire the premise; a
-// new order every field, its detail the order kind; a day mark the day; a date change all but the detail, with a counter of 32
-// bits, which is not 0, in the retailer's place; an agreement the premise and the retailer, its detail whether it is established or
-// deleted.
+// Dispatch on the record kind: a `match` on its number, with a range for those that name an order, as document 01 names it. A create uses
+// the detail, its window, the day, the premise, and a retailer or none; a retire the premise; a new order every field, its detail the
+// order kind; a day mark the day; a date change all but the detail, with a counter of 32 bits, which is not 0, in the retailer's place;
+// an agreement the premise and the retailer, its detail whether it is established or deleted.
 pub fn well_formed(fields: Record) -> bool
     ensures { result ≡ well_formed fields }
 {

@@ -7,7 +7,7 @@ use lib.Dec.{eqb}
 use lib.ListN.{length}
 use borrow.Author.Tests.{eq-eqb, ne_eqb, eqb-true, eqb-false}
 use Rattle.records.specs.declared.Record.{Record}
-use Rattle.records.specs.declared.Reading.TheVariants.{Malformed, Says}
+use Rattle.std.specs.Prelude.{Some, None}
 use Rattle.records.specs.Layout.{Bytes, record_length, kind_field, detail_field, day_field, reference_field, premise_field, retailer_field}
 use Rattle.records.specs.Layout.{wide, field_of}
 use Rattle.records.specs.Records.{well_formed, fields_of, reading_by, reading}
@@ -25,14 +25,14 @@ module _ (bytes : List ℕ) where
   unfolding field_of
   nothing_left = refl
 
-  pub reading-length : (length bytes ≡ record_length → ⊥) → reading bytes ≡ Malformed
+  pub reading-length : (length bytes ≡ record_length → ⊥) → reading bytes ≡ None
   reading-length h = other_length wide bytes h
 
-  pub reading_unformed : well_formed (fields_of bytes) ≡ false → reading bytes ≡ Malformed
+  pub reading_unformed : well_formed (fields_of bytes) ≡ false → reading bytes ≡ None
   unfolding reading_by
   reading_unformed h = simp (h, and-false)
 
-  pub reading_says : length bytes ≡ record_length → well_formed (fields_of bytes) ≡ true → reading bytes ≡ Says (fields_of bytes)
+  pub reading_says : length bytes ≡ record_length → well_formed (fields_of bytes) ≡ true → reading bytes ≡ Some (fields_of bytes)
   unfolding reading_by
   reading_says l w = simp (nothing_left, eq-eqb (length bytes) record_length l, w)
 
@@ -47,7 +47,7 @@ reading_said bytes = go (eqb (length bytes) record_length) refl (well_formed (fi
     go true e false w = subst (SaidIn bytes) (sym (reading_unformed bytes w)) tt
     go false e b w = subst (SaidIn bytes) (sym (reading-length bytes (eqb-false (length bytes) record_length e))) tt
 
-pub says : (bytes : List ℕ) (r : Record) → reading bytes ≡ Says r → Said bytes r
+pub says : (bytes : List ℕ) (r : Record) → reading bytes ≡ Some r → Said bytes r
 says bytes r e = subst (SaidIn bytes) e (reading_said bytes)
 
 -- and of bytes that are bytes: the record's numbers go into their fields

@@ -10,8 +10,7 @@ use lib.Seq.{drop-drop}
 use borrow.Author.Tests.{eqb-true, eqb-false, ne_eqb, leb-true, le-leb}
 use Rattle.records.specs.declared.Record.{Record}
 use Rattle.records.specs.declared.Notice.{Notice}
-use Rattle.records.specs.declared.Reading.{Reading}
-use Rattle.records.specs.declared.Reading.TheVariants.{Malformed, Says}
+use Rattle.std.specs.Prelude.{Option, Some, None}
 use Rattle.records.specs.Layout.{wide, narrow, record_length, kind_field, detail_field, day_field, reference_field, premise_field}
 use Rattle.records.specs.Layout.{number, bytes_of, field_of}
 use Rattle.records.specs.Records.{kind_date_change, well_formed_by, fields_by, reading_by}
@@ -112,7 +111,7 @@ fields_same bytes rest = λ i. record {
 pub same_reading : SameReading
 unfolding reading_by
 same_reading bytes rest names =
-    ap₂ (λ (passes : Bool) (r : Record). cond passes (Says r) Malformed)
+    ap₂ (λ (passes : Bool) (r : Record). cond passes (Some r) None)
     (ap₂ (λ (left : ℕ) (formed : Bool). eqb (length bytes) record_length && eqb left 0 && formed) (rest ∙ sym (nothing_left bytes))
     (same_formed (fields_by narrow bytes) names ∙ ap (well_formed_by wide) (fields_same bytes rest)))
     (fields_same bytes rest)
@@ -120,9 +119,9 @@ same_reading bytes rest names =
 pub says_up_to : SaysUpTo
 says_up_to bytes rest names = go (reading_by wide bytes) (reading_said bytes)
   where
-    go : (d : Reading) → SaidIn bytes d → NamedUpTo narrow.last_retailer d
-    go Malformed said = tt
-    go (Says r) said = subst⁻¹ (NamesUpTo narrow.last_retailer) (said.fields ∙ sym (fields_same bytes rest)) names
+    go : (d : Option Record) → SaidIn bytes d → NamedUpTo narrow.last_retailer d
+    go None said = tt
+    go (Some r) said = subst⁻¹ (NamesUpTo narrow.last_retailer) (said.fields ∙ sym (fields_same bytes rest)) names
 
 -- ---- notices
 same_notice : (n : Notice) → ToUpTo narrow.last_retailer n → encode_by narrow n ≡ encode_by wide n

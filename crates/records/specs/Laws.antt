@@ -4,8 +4,7 @@ use Rattle.std.specs.Prelude.{ℕ, ◌≤◌, ◌<◌, ◌≡◌, ◌↔◌, Lis
 use Rattle.days.specs.Days.{last_day}
 use Rattle.days.specs.Window.{most_width}
 use Rattle.records.specs.declared.Record.{Record}
-use Rattle.records.specs.declared.Reading.{Reading}
-use Rattle.records.specs.declared.Reading.TheVariants.{Malformed, Says}
+use Rattle.std.specs.Prelude.{Option, Some, None}
 use Rattle.records.specs.Layout.{Field, GoesInto, record_length, kind_field, detail_field, day_field, reference_field, premise_field}
 use Rattle.records.specs.Layout.{retailer_field}
 use Rattle.records.specs.Records.{kind_new_order, kind_day_mark, kind_date_change, kind_agreement, standard_switch, mass_transition_drop}
@@ -124,6 +123,6 @@ pub record Said (bytes : List ℕ) (r : Record) : Type 0 where
   pub formed : well_formed r ≡ true
 
 -- of a reading: nothing where the bytes are malformed
-abbrev pub SaidIn : List ℕ → Reading → Type 0
-SaidIn bytes Malformed = Unit {0}
-SaidIn bytes (Says r) = Said bytes r
+abbrev pub SaidIn : List ℕ → Option Record → Type 0
+SaidIn bytes None = Unit {0}
+SaidIn bytes (Some r) = Said bytes r

@@ -2,8 +2,8 @@
 -- them.
 use Rattle.std.specs.Prelude.{ℕ, ◌≡◌, List, [], ◌∷◌}
 use Rattle.records.specs.declared.Notice.{Notice}
-use Rattle.records.specs.declared.Reading.{Reading}
-use Rattle.records.specs.declared.Reading.TheVariants.{Malformed, Says}
+use Rattle.std.specs.Prelude.{Option, Some, None}
+use Rattle.records.specs.declared.Record.{Record}
 use Rattle.records.specs.Records.{reading}
 use Rattle.records.specs.Notices.{encode}
 
@@ -33,9 +33,9 @@ abbrev byte23 : List ℕ
 byte23 = 0 ∷ 0 ∷ 0 ∷ 0 ∷ 0 ∷ 0 ∷ 0 ∷ 1 ∷ []
 
 -- they say a record with a retailer, or a counter
-abbrev says : ℕ → ℕ → ℕ → ℕ → ℕ → Reading
+abbrev says : ℕ → ℕ → ℕ → ℕ → ℕ → Option Record
 says kind detail day reference retailer =
-    Says (record { kind = kind; detail = detail; day = day; reference = reference; premise = 7; retailer = retailer })
+    Some (record { kind = kind; detail = detail; day = day; reference = reference; premise = 7; retailer = retailer })
 
 -- a notice of code 4 on a switch
 abbrev losing : ℕ → Notice
@@ -43,15 +43,15 @@ losing addressee = record { code = 4; kind = 4; day = 11; reference = 1; premise
 
 pub record LongRetailers : Type 0 where
   pub create : reading (bytes 1 0 0 0 last) ≡ says 1 0 0 0 9999999999999
-  pub create_past : reading (bytes 1 0 0 0 past) ≡ Malformed
+  pub create_past : reading (bytes 1 0 0 0 past) ≡ None
   pub switch : reading (bytes 3 4 11 1 suffixed) ≡ says 3 4 11 1 1000000000123
-  pub switch_past : reading (bytes 3 4 11 1 past) ≡ Malformed
+  pub switch_past : reading (bytes 3 4 11 1 past) ≡ None
   pub cancel : reading (bytes 8 0 0 1 last) ≡ says 8 0 0 1 9999999999999
   pub agreement : reading (bytes 12 1 0 0 last) ≡ says 12 1 0 0 9999999999999
-  pub agreement_past : reading (bytes 12 1 0 0 past) ≡ Malformed
+  pub agreement_past : reading (bytes 12 1 0 0 past) ≡ None
   pub counter : reading (bytes 11 0 11 1 four_bytes) ≡ says 11 0 11 1 4294967295
-  pub counter_past : reading (bytes 11 0 11 1 five_bytes) ≡ Malformed
+  pub counter_past : reading (bytes 11 0 11 1 five_bytes) ≡ None
   -- where a kind does not use the field, all eight bytes are zero
-  pub retire : reading (bytes 2 0 0 0 byte23) ≡ Malformed
-  pub scheduled : reading (bytes 4 0 11 1 byte23) ≡ Malformed
+  pub retire : reading (bytes 2 0 0 0 byte23) ≡ None
+  pub scheduled : reading (bytes 4 0 11 1 byte23) ≡ None
   pub notice : encode (losing 9999999999999) ≡ bytes 4 4 11 1 last

@@ -3,8 +3,7 @@ use Rattle.std.specs.Prelude.{ℕ, List, Bool, cond, not, ◌&&◌, ◌||◌, eq
 use Rattle.days.specs.Days.{is_day}
 use Rattle.days.specs.Window.{most_width}
 use Rattle.records.specs.declared.Record.{Record}
-use Rattle.records.specs.declared.Reading.{Reading}
-use Rattle.records.specs.declared.Reading.TheVariants.{Malformed, Says}
+use Rattle.std.specs.Prelude.{Option, Some, None}
 use Rattle.records.specs.Layout.{Layout, wide, record_length, kind_field, detail_field, day_field, reference_field, premise_field, field_of}
 
 -- The record kinds, 1 to 10, and of document 02 11 (change 1) and 12 (change 3).
@@ -173,10 +172,10 @@ fields_of = fields_by wide
 
 -- Row 3, decided by a record's bytes alone: length not 24, kind, detail or field out of range, unused field not zero. What a layout leaves
 -- behind the retailer is unused in every record.
-unfoldable pub reading_by : Layout → List ℕ → Reading
+unfoldable pub reading_by : Layout → List ℕ → Option Record
 reading_by layout bytes =
     cond (eqb (length bytes) record_length && eqb (field_of layout.rest bytes) 0 && well_formed_by layout (fields_by layout bytes))
-    (Says (fields_by layout bytes)) Malformed
+    (Some (fields_by layout bytes)) None
 
-abbrev pub reading : List ℕ → Reading
+abbrev pub reading : List ℕ → Option Record
 reading = reading_by wide

@@ -3,8 +3,7 @@ use Rattle.std.specs.Prelude.{ℕ, ◌+◌, ◌*◌, ◌≤◌, ◌<◌, ◌≡�
 use Rattle.lists.specs.Search.{Each}
 use Rattle.records.specs.declared.Record.{Record}
 use Rattle.records.specs.declared.Notice.{Notice}
-use Rattle.records.specs.declared.Reading.{Reading}
-use Rattle.records.specs.declared.Reading.TheVariants.{Malformed, Says}
+use Rattle.std.specs.Prelude.{Option, Some, None}
 use Rattle.records.specs.Layout.{Layout, wide, narrow, record_length, GoesInto, bytes_of, field_of}
 use Rattle.records.specs.Records.{kind_date_change, a_retailer_by, a_retailer_or_none_by, a_counter, well_formed_by, fields_by, reading_by}
 use Rattle.records.specs.Laws.{Given, UpTo}
@@ -21,7 +20,7 @@ NarrowRetailersOrNone = (n : ℕ) → (a_retailer_or_none_by narrow n ≡ true) 
 -- "20–23 zero", whatever the kind
 abbrev pub NarrowRest : Type 0
 NarrowRest =
-    (bytes : List ℕ) → (field_of (record { start = 20; width = 4 }) bytes ≡ 0 → ⊥) → reading_by narrow bytes ≡ Malformed
+    (bytes : List ℕ) → (field_of (record { start = 20; width = 4 }) bytes ≡ 0 → ⊥) → reading_by narrow bytes ≡ None
 
 abbrev pub NarrowNotice : Type 0
 NarrowNotice = (n : Notice) → drop 20 (encode_by narrow n) ≡ 0 ∷ 0 ∷ 0 ∷ 0 ∷ []
@@ -56,9 +55,9 @@ SameReading =
     → reading_by narrow bytes ≡ reading_by wide bytes
 
 -- .. and what they say names no retailer above it.
-abbrev pub NamedUpTo : ℕ → Reading → Type 0
-NamedUpTo last Malformed = Unit {0}
-NamedUpTo last (Says r) = NamesUpTo last r
+abbrev pub NamedUpTo : ℕ → Option Record → Type 0
+NamedUpTo last None = Unit {0}
+NamedUpTo last (Some r) = NamesUpTo last r
 
 abbrev pub SaysUpTo : Type 0
 SaysUpTo =
@@ -67,7 +66,7 @@ SaysUpTo =
 
 -- bytes of another length meet row 3 by any layout
 abbrev pub OtherLength : Type 0
-OtherLength = (layout : Layout) (bytes : List ℕ) → (length bytes ≡ record_length → ⊥) → reading_by layout bytes ≡ Malformed
+OtherLength = (layout : Layout) (bytes : List ℕ) → (length bytes ≡ record_length → ⊥) → reading_by layout bytes ≡ None
 
 -- ---- notices
 -- a notice to a retailer up to a number, or to the TDSP

@@ -10,7 +10,7 @@ pub mod record_kind;
 // The length of a record and of a notice.
 pub const RECORD_LENGTH: usize = 24;
 
-// What a cancel reply says.
+// What a cancel reply says. A number, as below: the detail is one byte, which each kind reads in its own way.
 pub const REPLY_ACCEPT: u8 = 1;
 
 pub const REPLY_REJECT: u8 = 2;
@@ -24,7 +24,7 @@ pub const DELETE: u8 = 2;
 pub const LAST_RETAILER: u64 = 9_999_999_999_999;
 // The counters of date changes are 1 to this number.
 pub const LAST_COUNTER: u64 = 4_294_967_295;
-// The addressee that is the TDSP, the wires company.
+// The addressee that is the TDSP, the wires company. A number, as a retailer is: the field of the notice holds either.
 pub const TDSP: u64 = 0;
 
 // A record's fields, as its bytes give them.
@@ -37,14 +37,6 @@ pub struct Record {
     pub premise: u64,
     // the retailer; of a date change its counter
     pub retailer: u64,
-}
-
-// What the bytes of a record say.
-#[derive(Clone, Copy)]
-pub enum Reading {
-    // They meet row 3.
-    Malformed,
-    Says(Record),
 }
 
 // A notice. An addressee of 0 is the TDSP.

@@ -1,4 +1,4 @@
-// The order kinds.
+// The order kinds. Numbers with names, and no enum: a damaged book holds orders of any number, and a call answers it (row 2).
 pub const MOVE_IN: u8 = 1;
 
 pub const MOVE_OUT: u8 = 2;

@@ -1,4 +1,5 @@
-// The record kinds.
+// The record kinds. Numbers with names, and no enum: the dispatch goes by ranges of them, a form that document 01 names, and the fields
+// of a record are what its bytes give, in range or not.
 pub const CREATE: u8 = 1;
 
 pub const RETIRE: u8 = 2;

@@ -3,12 +3,10 @@
 use Prim.Native.Nat.{ℕ, min}
 use mathlib.Core.Path.{◌≡◌, refl, ap, ◌∙◌}
 use mathlib.Core.List.{List, [], ◌∷◌}
-use mathlib.Core.Option.{Option, some}
+use Rattle.std.specs.Prelude.{Option, Some}
 use Rattle.lists.specs.Search.{any_of, Each}
 use Rattle.days.specs.Days.{last_day}
 use Rattle.records.specs.declared.Record.{Record}
-use Rattle.records.specs.declared.Reading.{Reading}
-use Rattle.records.specs.declared.Reading.TheVariants.{Says}
 use Rattle.records.specs.Records.{reading}
 use Rattle.premise.specs.declared.File.{File}
 use Rattle.premise.specs.Orders.{kept_width}
@@ -69,13 +67,13 @@ no_retailer_fills calendar start ms p retailer =
 
 -- ---- room for others
 -- the rows from 26 on are those of the premise's orders
-rows_from_26 : (calendar : List ℕ) (b : Book) (bytes lent : List ℕ) (r : Record) → reading bytes ≡ Says r
+rows_from_26 : (calendar : List ℕ) (b : Book) (bytes lent : List ℕ) (r : Record) → reading bytes ≡ Some r
     → from_row 26 (call_rows calendar b bytes lent)
     ≡ from_row 26 (file_rows calendar b.today (file_for r.premise (files_of b)) r)
 unfolding call_rows_by number
 rows_from_26 calendar b bytes lent r e =
     let file : Option File = file_for r.premise (files_of b) in
-    ap (λ (d : Reading). from_row 26 (record_rows calendar b d)) e
+    ap (λ (d : Option Record). from_row 26 (record_rows calendar b d)) e
     ∙ from_skips 26 (premise_rows file r) _ (rw (premise_row_numbers file r) refl)
 
 pub room_for_others : RoomForOthers
@@ -85,4 +83,4 @@ room_for_others calendar b bytes before reply after p r f h =
     (ap (any_of holds)
     (rows_from_26 calendar b bytes before r h.says
     ∙ ap (λ (file : Option File). from_row 26 (file_rows calendar b.today file r)) h.there)
-    ∙ room_from_26 (kept_width f) calendar b.today (orders_of (some f)) r h.new h.own h.all))
+    ∙ room_from_26 (kept_width f) calendar b.today (orders_of (Some f)) r h.new h.own h.all))

@@ -1,9 +1,8 @@
 -- Document 02, change 12, "No retailer fills a flat's stack", over the record call's promise; proofs/Shares.antt proves it.
 use Rattle.std.specs.Prelude.{ℕ, ◌≤◌, ◌<◌, ◌≡◌, List, true, false}
-use Rattle.std.proofs.Math.Option.{some}
+use Rattle.std.specs.Prelude.{Some}
 use Rattle.lists.specs.Search.{any_of, count_of, Each}
 use Rattle.records.specs.declared.Record.{Record}
-use Rattle.records.specs.declared.Reading.TheVariants.{Says}
 use Rattle.records.specs.Records.{reading, kind_new_order}
 use Rattle.premise.specs.declared.File.{File}
 use Rattle.premise.specs.Orders.{most_orders, most_of_one, is_open, open_of, held}
@@ -27,9 +26,9 @@ NoRetailerFills =
 -- "Whenever fewer than 8 are open, a new order whose Q has fewer than 4 there, and which no earlier row refuses, is accepted." The earlier
 -- rows are those of the call's own table in front of 26.
 pub record HasRoom (calendar : List ℕ) (b : Book) (bytes before : List ℕ) (r : Record) (f : File) : Type 0 where
-  pub says : reading bytes ≡ Says r
+  pub says : reading bytes ≡ Some r
   pub new : is kind_new_order r ≡ true
-  pub there : file_for r.premise (files_of b) ≡ some f
+  pub there : file_for r.premise (files_of b) ≡ Some f
   pub no_earlier : any_of (λ (x : Row). x.when) (in_front_of 26 (call_rows calendar b bytes before)) ≡ false
   pub own : open_of r.retailer (held f) < most_of_one
   pub all : count_of is_open (held f) < most_orders

@@ -13,8 +13,8 @@ use Rattle.lists.proofs.TestLaws.{by_test}
 use Rattle.lists.proofs.SearchLaws.{each_append}
 use Rattle.days.specs.Days.{last_day}
 use Rattle.records.specs.declared.Notice.{Notice}
-use Rattle.records.specs.declared.Reading.{Reading}
-use Rattle.records.specs.declared.Reading.TheVariants.{Malformed, Says}
+use Rattle.std.specs.Prelude.{Option, Some, None}
+use Rattle.records.specs.declared.Record.{Record}
 use Rattle.records.specs.Layout.{record_length, wide, narrow}
 use Rattle.records.specs.Records.{reading_by, reading, kind_day_mark}
 use Rattle.records.specs.Widths.{NamedUpTo, ToUpTo}
@@ -92,9 +92,9 @@ module _ (calendar : List ℕ) where
       each_append (ToUpTo last) (marked calendar day f).notices (marked_notices calendar day fs)
       (mark_makes_no_retailer last kept_width calendar day f u.0).notices (notices_left day fs u.1)
 
-  reading_left : (b : Book) → NoneAbove (files_of b) → (d : Reading) → NamedUpTo last d → Stays (on_reading calendar b d)
-  reading_left b u Malformed n = record { files = u; notices = tt }
-  reading_left b u (Says r) n =
+  reading_left : (b : Book) → NoneAbove (files_of b) → (d : Option Record) → NamedUpTo last d → Stays (on_reading calendar b d)
+  reading_left b u None n = record { files = u; notices = tt }
+  reading_left b u (Some r) n =
       by_test Stays (is kind_day_mark r) (marked_book calendar b r.day) (on_premise calendar b r)
       (λ t. record {
         files =

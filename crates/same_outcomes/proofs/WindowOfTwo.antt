@@ -3,7 +3,7 @@
 use Prim.Native.Nat.{ℕ, min}
 use mathlib.Core.Path.{◌≡◌, refl, ap, ap₂, sym, subst, ◌∙◌}
 use mathlib.Core.List.{List, [], ◌∷◌, ◌++◌}
-use mathlib.Core.Option.{Option, none, some}
+use Rattle.std.specs.Prelude.{Option, Some, None}
 use mathlib.Core.Bool.{Bool, true, false, cond, not, ◌&&◌}
 use lib.Dec.{eqb, ltb}
 use lib.ListN.{length}
@@ -13,12 +13,11 @@ use Rattle.days.specs.Days.{last_day}
 use Rattle.days.specs.Window.{window_width}
 use Rattle.records.specs.declared.Record.{Record}
 use Rattle.records.specs.declared.Notice.{Notice}
-use Rattle.records.specs.declared.Reading.{Reading}
-use Rattle.records.specs.declared.Reading.TheVariants.{Malformed, Says}
 use Rattle.records.specs.Layout.{wide}
 use Rattle.records.specs.Records.{reading, kind_create, kind_day_mark}
 use Rattle.premise.specs.declared.File.{File}
-use Rattle.premise.specs.declared.Answer.TheVariants.{Accepted, ShortBuffer, NotWellKept, MalformedRecord, BookFull}
+use Rattle.std.specs.Prelude.{Ok}
+use Rattle.premise.specs.declared.Refusal.TheVariants.{ShortBuffer, NotWellKept, MalformedRecord, BookFull}
 use Rattle.premise.specs.Orders.{kept_width, always}
 use Rattle.premise.specs.Steps.{is, width_for}
 use Rattle.premise.specs.Refusals.{Row, row, number, first_row, premise_rows}
@@ -63,22 +62,22 @@ module _ (calendar : List ℕ) where
     found : (premise : ℕ) → Held (OfWidth window_width) (file_for premise (files_of b))
     found premise = found_each (OfWidth window_width) premise (files_of b) u
 
-    rows_same : (d : Reading) → record_rows_with kept_width calendar b d ≡ record_rows_with (always window_width) calendar b d
-    rows_same Malformed = refl
-    rows_same (Says r) =
+    rows_same : (d : Option Record) → record_rows_with kept_width calendar b d ≡ record_rows_with (always window_width) calendar b d
+    rows_same None = refl
+    rows_same (Some r) =
         let file : Option File = file_for r.premise (files_of b) in
         ap (λ (rs : List Row). row MalformedRecord false
         ∷ premise_rows file r ++ (row BookFull (is kind_create r && eqb (length (files_of b)) most_files) ∷ rs))
         (rows_of_width window_width calendar b.today file r (found r.premise))
 
-    reading_same : (d : Reading) → on_reading_with kept_width calendar b d ≡ on_reading_with (always window_width) calendar b d
-    reading_same Malformed = refl
-    reading_same (Says r) =
+    reading_same : (d : Option Record) → on_reading_with kept_width calendar b d ≡ on_reading_with (always window_width) calendar b d
+    reading_same None = refl
+    reading_same (Some r) =
         ap₂ (cond (is kind_day_mark r))
-        (ap₂ (λ (ns : List Notice) (fs : List File). record { answer = Accepted; notices = ns; book = book_of r.day fs })
+        (ap₂ (λ (ns : List Notice) (fs : List File). record { answer = Ok tt; notices = ns; book = book_of r.day fs })
         (notices_same r.day (files_of b) u) (files_same r.day (files_of b) u))
         (ap (λ (given : Given). record {
-          answer = Accepted;
+          answer = Ok tt;
           notices = given.notices;
           book = book_of b.today (with_file r.premise given.state.file (files_of b));
         })
@@ -102,16 +101,16 @@ module _ (calendar : List ℕ) where
   files_left_lem day [] u = tt
   files_left_lem day (f ∷ fs) u = (mark_leaves_width kept_width calendar day f ∙ u.0, files_left_lem day fs u.1)
 
-  file_left : (today : ℕ) (r : Record) → NoDetail (Says r) → (file : Option File) → Held (OfWidth window_width) file
+  file_left : (today : ℕ) (r : Record) → NoDetail (Some r) → (file : Option File) → Held (OfWidth window_width) file
       → Held (OfWidth window_width) (given_on calendar today file r).state.file
-  file_left today r n (some f) h =
-      subst (λ (width : ℕ). Held (OfWidth width) (given_on calendar today (some f) r).state.file) h
+  file_left today r n (Some f) h =
+      subst (λ (width : ℕ). Held (OfWidth width) (given_on calendar today (Some f) r).state.file) h
       (step_leaves_width kept_width calendar today f r)
-  file_left today r n none h = go (is kind_create r) refl
+  file_left today r n None h = go (is kind_create r) refl
     where
-      go : (create : Bool) → is kind_create r ≡ create → Held (OfWidth window_width) (given_on calendar today none r).state.file
+      go : (create : Bool) → is kind_create r ≡ create → Held (OfWidth window_width) (given_on calendar today None r).state.file
       go true e =
-          subst (λ (detail : ℕ). Held (OfWidth (width_for detail)) (given_on calendar today none r).state.file) (n e)
+          subst (λ (detail : ℕ). Held (OfWidth (width_for detail)) (given_on calendar today None r).state.file) (n e)
           (create_gives_width kept_width calendar today r)
       go false e = subst (Held (OfWidth window_width)) (sym (only_create_makes calendar today r e)) tt
 
@@ -122,9 +121,9 @@ module _ (calendar : List ℕ) where
       by_test (λ (x : Result). AllTwo (files_of x.book)) (eqb (number (first_row (call_rows calendar b bytes lent))) 0)
       (on_reading calendar b (reading bytes)) _ (λ t. go (reading bytes) n) (λ t. u)
     where
-      go : (d : Reading) → NoDetail d → AllTwo (files_of (on_reading calendar b d).book)
-      go Malformed n = u
-      go (Says r) n =
+      go : (d : Option Record) → NoDetail d → AllTwo (files_of (on_reading calendar b d).book)
+      go None n = u
+      go (Some r) n =
           by_test (λ (x : Result). AllTwo (files_of x.book)) (is kind_day_mark r) (marked_book calendar b r.day) (on_premise calendar b r)
           (λ t. rw (holds_its_files r.day (marked_files calendar r.day (files_of b))) (files_left_lem r.day (files_of b) u))
           (λ t. let file : Option File = (given_on calendar b.today (file_for r.premise (files_of b)) r).state.file in

@@ -4,8 +4,8 @@
 use Rattle.std.specs.Prelude.{ℕ, ◌≡◌, List, true}
 use Rattle.lists.specs.Search.{Each}
 use Rattle.days.specs.Window.{window_width}
-use Rattle.records.specs.declared.Reading.{Reading}
-use Rattle.records.specs.declared.Reading.TheVariants.{Malformed, Says}
+use Rattle.std.specs.Prelude.{Option, Some, None}
+use Rattle.records.specs.declared.Record.{Record}
 use Rattle.records.specs.Layout.{wide}
 use Rattle.records.specs.Records.{reading, kind_create}
 use Rattle.premise.specs.declared.File.{File}
@@ -24,9 +24,9 @@ abbrev pub outcomes_with : (File → ℕ) → List ℕ → Book → List ToMake 
 outcomes_with = outcomes_by wide
 
 -- what bytes say, if it is a create, has detail 0
-abbrev pub NoDetail : Reading → Type 0
-NoDetail Malformed = Unit {0}
-NoDetail (Says r) = is kind_create r ≡ true → r.detail ≡ 0
+abbrev pub NoDetail : Option Record → Type 0
+NoDetail None = Unit {0}
+NoDetail (Some r) = is kind_create r ≡ true → r.detail ≡ 0
 
 abbrev pub NoCreateHasDetail : List ToMake → Type 0
 NoCreateHasDetail cs = Each (λ (c : ToMake). NoDetail (reading c.bytes)) cs

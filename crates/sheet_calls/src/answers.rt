@@ -1,55 +1,55 @@
-// What a call answers, and how many rows it fills in then.
-ghost use Rattle.std.specs.Prelude.{◌≡◌, ◌&&◌};
-ghost use Rattle.book.specs.Book.{book_kept};
-ghost use Rattle.sheet_rules.specs.Sheet.{number, is_sound};
-ghost use Rattle.sheet_calls.specs.Judged.{judged};
+// What a call answers.
+ghost use Rattle.std.specs.Prelude.{◌≡◌};
+ghost use Rattle.lists.specs.Search.{all_of};
+ghost use Rattle.sheet_rules.specs.Sheet.{number, is_sound, sheet_answer};
 
 use book::Book;
-use sheet_rules::{BlockRow, SheetAnswer};
+use sheet_rules::{BlockRow, SheetRefusal};
 
-// An answer, and how many rows are filled in with it: all or none.
-#[derive(Clone, Copy)]
-pub struct Judged {
-    pub answer: SheetAnswer,
-    pub filled: usize,
+// Whether a row has a block, and a first premise that is not above its last.
+#[tactic(auto, unfolding(sheet_rules::specs::Sheet::row_sound))]
+fn is_sound(row: &BlockRow) -> bool
+    ensures { result ≡ is_sound row.now }
+{
+    row.block != 0 && row.first <= row.last
 }
 
-// Whether a row is sound, and all before it were.
-pub fn still_sound(sound: bool, row: BlockRow) -> bool
-    ensures { result ≡ (sound && is_sound row) }
+// Whether every row is sound.
+fn are_sound(rows: &[BlockRow]) -> bool
+    ensures { result ≡ all_of is_sound rows.now }
 {
-    sound & (row.block != 0) & (row.first <= row.last)
+    rows.iter().all(|row| is_sound(row))
 }
 
-// The answer of a call on so many rows, by whether all are sound.
-pub fn judge(b: Book, sound: bool, count: usize) -> Judged
-    ensures { result ≡ judged (book_kept b) sound count }
+// The answer of a call on some rows.
+#[tactic(auto, unfolding(sheet_rules::specs::Sheet::sheet_answer))]
+pub fn judge(b: &Book, rows: &[BlockRow]) -> Result<(), SheetRefusal>
+    ensures { result ≡ sheet_answer b.now rows.now }
 {
-    if !book_files::book_kept(b) {
-        return Judged {
-            answer: SheetAnswer::NotWellKept,
-            filled: 0,
-        };
+    if !book_files::book_kept(*b) {
+        return Err(SheetRefusal::NotWellKept);
     }
-    if !sound {
-        return Judged {
-            answer: SheetAnswer::UnsoundRow,
-            filled: 0,
-        };
+    if !are_sound(rows) {
+        return Err(SheetRefusal::UnsoundRow);
     }
-    Judged {
-        answer: SheetAnswer::Filled,
-        filled: count,
-    }
+    Ok(())
+}
+
+// The number of a refusal. (Cast within the arm of `number_of` a variant gives no proof its name.)
+#[tactic(auto, unfolding(sheet_rules::specs::Sheet::number))]
+fn number_refused(refusal: SheetRefusal) -> u8
+    ensures { result ≡ number (Err refusal) }
+{
+    refusal as u8
 }
 
 // The number of an answer.
-pub fn number_of(answer: SheetAnswer) -> u8
+#[tactic(auto, unfolding(sheet_rules::specs::Sheet::number))]
+pub fn number_of(answer: Result<(), SheetRefusal>) -> u8
     ensures { result ≡ number answer }
 {
     match answer {
-        SheetAnswer::Filled => 0,
-        SheetAnswer::NotWellKept => 2,
-        SheetAnswer::UnsoundRow => 27,
+        Ok(()) => 0,
+        Err(refusal) => number_refused(refusal),
     }
 }

@@ -3,13 +3,13 @@ use Prim.Native.Nat.{◌≤◌}
 use mathlib.Core.Path.{◌≡◌, refl}
 use mathlib.Core.Bool.{Bool, true, false, cond, and-false}
 use native.Mathlib.Omega.{arith}
+use Rattle.std.specs.Prelude.{Ok}
 use lib.Dec.{leb}
 use borrow.Author.Tests.{leb-true, leb-false, lt-leb}
 use Rattle.lists.specs.Search.{count_of}
 use Rattle.premise.specs.WellKept.{order_kept_by, is_blank, file_kept_by, file_blank}
 use Rattle.book.specs.Totals.{waiting_in}
 use Rattle.book.specs.Book.{book_of, book_kept_by}
-use Rattle.sheet_rules.specs.declared.SheetAnswer.TheVariants.{Filled}
 use Rattle.sheet_rules.specs.Sheet.{number, in_range, tally_of, counted, row_sound, sheet_answer, rows_after, Fills}
 use Rattle.sheet_rules.specs.Theorems.{spans, Apart, Covers}
 use Rattle.sheet_rules.specs.Samples.{three, falling, falling_filled, SumsMet}
@@ -34,13 +34,13 @@ apart p = go (leb 20 p) refl (leb 40 p) refl
 pub sums_met : SumsMet
 unfolding order_kept_by is_blank file_kept_by file_blank waiting_in book_of book_kept_by number tally_of counted row_sound sheet_answer rows_after
 sums_met =
-    let promised : Fills three falling Filled falling_filled = record { answered = refl; rows = refl } in
+    let promised : Fills three falling (Ok tt) falling_filled = record { answered = refl; rows = refl } in
     let covers : Covers falling three = (refl, (refl, (refl, tt))) in
     record {
       promised = promised;
       apart = apart;
       covers = covers;
-      sums = sums_are_the_books three falling falling_filled Filled promised refl apart covers;
+      sums = sums_are_the_books three falling falling_filled (Ok tt) promised refl apart covers;
       twice = refl;
       twice_dark = refl;
     }

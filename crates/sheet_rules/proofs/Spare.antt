@@ -4,14 +4,14 @@ use mathlib.Core.Path.{◌≡◌, refl, ap}
 use mathlib.Core.List.{List, [], ◌∷◌, ◌++◌, map}
 use mathlib.Core.Bool.{Bool, true, ◌&&◌}
 use lib.ListN.{length, take, replicate}
+use Rattle.std.specs.Prelude.{Ok, Err}
 use lib.Seq.{take_at}
 use Rattle.lists.specs.Search.{all_of}
 use Rattle.book.specs.declared.Book.{Book}
 use Rattle.book.specs.Book.{book_kept}
 use Rattle.sheet_rules.specs.declared.BlockRow.{BlockRow}
-use Rattle.sheet_rules.specs.declared.SheetAnswer.{SheetAnswer}
-use Rattle.sheet_rules.specs.declared.SheetAnswer.TheVariants.{Filled, NotWellKept, UnsoundRow}
-use Rattle.sheet_rules.specs.Sheet.{counted, row_sound, is_sound, answer_by, sheet_answer, rows_after}
+use Rattle.sheet_rules.specs.declared.SheetRefusal.TheVariants.{NotWellKept, UnsoundRow}
+use Rattle.sheet_rules.specs.Sheet.{SheetAnswer, counted, row_sound, is_sound, answer_by, sheet_answer, rows_after}
 use Rattle.sheet_rules.specs.Theorems.{spare, SpareRowsHidden}
 
 all_spare : (n : ℕ) → all_of is_sound (replicate n spare) ≡ true
@@ -30,9 +30,9 @@ mapped_front f (r ∷ rs) others = ap (λ (l : List BlockRow). f r ∷ l) (mappe
 front : (answer : SheetAnswer) (b : Book) (rows others : List BlockRow)
     → take (length rows) (rows_after answer b (rows ++ others)) ≡ rows_after answer b rows
 unfolding rows_after
-front Filled b rows others = mapped_front (counted b) rows others
-front NotWellKept b rows others = take_at rows others (length rows) refl
-front UnsoundRow b rows others = take_at rows others (length rows) refl
+front (Ok filled) b rows others = mapped_front (counted b) rows others
+front (Err NotWellKept) b rows others = take_at rows others (length rows) refl
+front (Err UnsoundRow) b rows others = take_at rows others (length rows) refl
 
 pub spare_rows_hidden : SpareRowsHidden
 unfolding sheet_answer

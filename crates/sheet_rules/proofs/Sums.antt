@@ -6,14 +6,14 @@ use mathlib.Core.List.{List, [], ◌∷◌, map}
 use mathlib.Core.Bool.{Bool, true, false, cond, ◌&&◌, ◌||◌, false≢true}
 use native.Mathlib.Omega.{arith}
 use lib.ListN.{length}
+use Rattle.std.specs.Prelude.{Ok, Err}
 use Rattle.lists.specs.Search.{any_of, count_of, Each}
 use Rattle.premise.specs.declared.File.{File}
 use Rattle.book.specs.declared.Book.{Book}
 use Rattle.book.specs.Book.{files_of}
 use Rattle.sheet_rules.specs.declared.BlockRow.{BlockRow}
-use Rattle.sheet_rules.specs.declared.SheetAnswer.{SheetAnswer}
-use Rattle.sheet_rules.specs.declared.SheetAnswer.TheVariants.{Filled, NotWellKept, UnsoundRow}
-use Rattle.sheet_rules.specs.Sheet.{number, is_dark, any, passes_in, tally_of, counted, sheet_answer, rows_after}
+use Rattle.sheet_rules.specs.declared.SheetRefusal.TheVariants.{NotWellKept, UnsoundRow}
+use Rattle.sheet_rules.specs.Sheet.{SheetAnswer, number, is_dark, any, passes_in, tally_of, counted, sheet_answer, rows_after}
 use Rattle.sheet_rules.specs.Theorems.{sum_of, spans, Apart, Covers, SumsOf, SumsAreTheBooks, SameBlocks, KeepsBlocks}
 
 -- ---- sums
@@ -96,32 +96,32 @@ filled_sums b rows apart covers =
     }
 
 -- only one answer has the number 0
-answered : (answer : SheetAnswer) → number answer ≡ 0 → answer ≡ Filled
+answered : (answer : SheetAnswer) → number answer ≡ 0 → answer ≡ Ok tt
 unfolding number
-answered Filled e = refl
-answered NotWellKept e = absurd (omega (arith, e))
-answered UnsoundRow e = absurd (omega (arith, e))
+answered (Ok filled) e = refl
+answered (Err NotWellKept) e = absurd (omega (arith, e))
+answered (Err UnsoundRow) e = absurd (omega (arith, e))
 
 pub sums_are_the_books : SumsAreTheBooks
 unfolding rows_after
 sums_are_the_books b before after answer promised zero apart covers =
-    let e : sheet_answer b before ≡ Filled = sym promised.answered ∙ answered answer zero in
+    let e : sheet_answer b before ≡ Ok tt = sym promised.answered ∙ answered answer zero in
     let rows : after ≡ map (counted b) before = promised.rows ∙ ap (λ (a : SheetAnswer). rows_after a b before) e in
     subst (SumsOf b) (sym rows) (filled_sums b before apart covers)
 
 -- ---- the other fields
 same_after : (answer : SheetAnswer) (b : Book) (rows : List BlockRow) → SameBlocks rows (rows_after answer b rows)
 unfolding counted rows_after
-same_after Filled b [] = record { blocks = refl; firsts = refl; lasts = refl }
-same_after Filled b (r ∷ rs) =
-    let rest = same_after Filled b rs in
+same_after (Ok filled) b [] = record { blocks = refl; firsts = refl; lasts = refl }
+same_after (Ok filled) b (r ∷ rs) =
+    let rest = same_after (Ok tt) b rs in
     record {
       blocks = ap (λ (l : List ℕ). r.block ∷ l) rest.blocks;
       firsts = ap (λ (l : List ℕ). r.first ∷ l) rest.firsts;
       lasts = ap (λ (l : List ℕ). r.last ∷ l) rest.lasts;
     }
-same_after NotWellKept b rows = record { blocks = refl; firsts = refl; lasts = refl }
-same_after UnsoundRow b rows = record { blocks = refl; firsts = refl; lasts = refl }
+same_after (Err NotWellKept) b rows = record { blocks = refl; firsts = refl; lasts = refl }
+same_after (Err UnsoundRow) b rows = record { blocks = refl; firsts = refl; lasts = refl }
 
 pub keeps_blocks : KeepsBlocks
 keeps_blocks b before after answer promised =

@@ -1,12 +1,11 @@
 -- Books and rows, computed: what is handed in, the number and the rows that must come back.
-use Rattle.std.specs.Prelude.{ℕ, ◌+◌, ◌≡◌, List, [], ◌∷◌, Bool, true, false, ◌&&◌, eqb, length}
+use Rattle.std.specs.Prelude.{ℕ, ◌+◌, ◌≡◌, List, [], ◌∷◌, Bool, true, false, ◌&&◌, eqb, length, Ok}
 use Rattle.lists.specs.Search.{all_of, count_of}
 use Rattle.premise.specs.declared.File.{File}
 use Rattle.premise.specs.Steps.{new_file}
 use Rattle.book.specs.declared.Book.{Book}
 use Rattle.book.specs.Book.{files_of, book_of}
 use Rattle.sheet_rules.specs.declared.BlockRow.{BlockRow}
-use Rattle.sheet_rules.specs.declared.SheetAnswer.TheVariants.{Filled}
 use Rattle.sheet_rules.specs.Sheet.{number, is_dark, sheet_answer, rows_after, Fills}
 use Rattle.sheet_rules.specs.Theorems.{sum_of, Apart, Covers, SumsOf}
 
@@ -52,7 +51,7 @@ overlapping_filled = sheet_row 1 10 19 2 1 ∷ sheet_row 1 19 30 2 1 ∷ []
 
 -- ---- the sums: their premises are met by the first rows; the second overlap, and what they sum to is one file and one dark file too many
 pub record SumsMet : Type 0 where
-  pub promised : Fills three falling Filled falling_filled
+  pub promised : Fills three falling (Ok tt) falling_filled
   pub apart : Apart falling
   pub covers : Covers falling three
   pub sums : SumsOf three falling_filled

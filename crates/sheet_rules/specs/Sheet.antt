@@ -1,6 +1,7 @@
 -- Document 02, change 14: the block sheet. "A lent list of block rows holds block number (32 bits, not 0), first P and last P, both
 -- inclusive, and two counts."
 use Rattle.std.specs.Prelude.{ℕ, ◌≡◌, List, map, Bool, true, cond, not, ◌&&◌, eqb, leb}
+use Rattle.std.specs.Prelude.{Result, Ok, Err}
 use Rattle.lists.specs.Search.{all_of, count_of}
 use Rattle.premise.specs.declared.File.{File}
 use Rattle.premise.specs.Orders.{no_retailer}
@@ -8,14 +9,18 @@ use Rattle.book.specs.declared.Book.{Book}
 use Rattle.book.specs.Book.{files_of, book_kept}
 use Rattle.sheet_rules.specs.declared.BlockRow.{BlockRow}
 use Rattle.sheet_rules.specs.declared.Tally.{Tally}
-use Rattle.sheet_rules.specs.declared.SheetAnswer.{SheetAnswer}
-use Rattle.sheet_rules.specs.declared.SheetAnswer.TheVariants.{Filled, NotWellKept, UnsoundRow}
+use Rattle.sheet_rules.specs.declared.SheetRefusal.{SheetRefusal}
+use Rattle.sheet_rules.specs.declared.SheetRefusal.TheVariants.{NotWellKept, UnsoundRow}
+
+-- What a call answers: that the rows are filled in, or why not.
+abbrev pub SheetAnswer : Type 0
+SheetAnswer = Result (Unit {0}) SheetRefusal
 
 -- The number returned, for every answer.
 unfoldable pub number : SheetAnswer → ℕ
-number Filled = 0
-number NotWellKept = 2
-number UnsoundRow = 27
+number (Ok filled) = 0
+number (Err NotWellKept) = 2
+number (Err UnsoundRow) = 27
 
 -- ---- what is counted
 -- "first P and last P, both inclusive"
@@ -60,16 +65,16 @@ is_sound r = row_sound r.block r.first r.last
 
 -- by whether the book is well kept and whether every row is sound: "27 when a row has block 0 or first P above last P, after 2"
 abbrev pub answer_by : Bool → Bool → SheetAnswer
-answer_by kept sound = cond (not kept) NotWellKept (cond (not sound) UnsoundRow Filled)
+answer_by kept sound = cond (not kept) (Err NotWellKept) (cond (not sound) (Err UnsoundRow) (Ok tt))
 
 unfoldable pub sheet_answer : Book → List BlockRow → SheetAnswer
 sheet_answer b rows = answer_by (book_kept b) (all_of is_sound rows)
 
 -- "with either number no count is changed"
 unfoldable pub rows_after : SheetAnswer → Book → List BlockRow → List BlockRow
-rows_after Filled b rows = map (counted b) rows
-rows_after NotWellKept b rows = rows
-rows_after UnsoundRow b rows = rows
+rows_after (Ok filled) b rows = map (counted b) rows
+rows_after (Err NotWellKept) b rows = rows
+rows_after (Err UnsoundRow) b rows = rows
 
 -- What a call promises, for every book and every list of rows: everything that comes out, by equation.
 pub record Fills (b : Book) (before : List BlockRow) (answer : SheetAnswer) (after : List BlockRow) : Type 0 where

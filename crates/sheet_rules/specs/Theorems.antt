@@ -5,8 +5,7 @@ use Rattle.premise.specs.declared.File.{File}
 use Rattle.book.specs.declared.Book.{Book}
 use Rattle.book.specs.Book.{files_of}
 use Rattle.sheet_rules.specs.declared.BlockRow.{BlockRow}
-use Rattle.sheet_rules.specs.declared.SheetAnswer.{SheetAnswer}
-use Rattle.sheet_rules.specs.Sheet.{number, in_range, is_dark, sheet_answer, rows_after, Fills}
+use Rattle.sheet_rules.specs.Sheet.{SheetAnswer, number, in_range, is_dark, sheet_answer, rows_after, Fills}
 
 -- ---- the sums
 abbrev pub sum_of : {A : Type 0} → (A → ℕ) → List A → ℕ

@@ -4,7 +4,7 @@
 #![tactic(auto)]
 
 // A block's row: its number, its premises from the first to the last, and the two counts that a call fills in.
-#[derive(Clone, Copy)]
+#[derive(Debug, Clone, Copy, PartialEq, Eq)]
 pub struct BlockRow {
     pub block: u32,
     pub first: u64,
@@ -14,18 +14,17 @@ pub struct BlockRow {
 }
 
 // The two counts: files, and those among them without a retailer.
-#[derive(Clone, Copy)]
+#[derive(Debug, Clone, Copy, PartialEq, Eq)]
 pub struct Tally {
     pub files: u32,
     pub dark: u32,
 }
 
-// What a call answers.
-#[derive(Clone, Copy)]
-pub enum SheetAnswer {
-    Filled,
-    // 2: the book is not well kept.
-    NotWellKept,
-    // 27: a row has block 0, or its first premise is above its last.
-    UnsoundRow,
+// Why a call fills in nothing, each by its number.
+#[derive(Debug, Clone, Copy, PartialEq, Eq)]
+pub enum SheetRefusal {
+    // The book is not well kept.
+    NotWellKept = 2,
+    // A row has block 0, or its first premise is above its last.
+    UnsoundRow = 27,
 }

@@ -2,7 +2,7 @@
 ghost use Rattle.std.specs.Prelude.{◌≡◌, ◌++◌, ◌≤◌, length, drop, replicate};
 ghost use Rattle.stretch_rules.specs.Stretch.{number};
 
-use premise::Answer;
+use premise::Refusal;
 use stretch_rules::StretchAnswer;
 
 // The number of an answer.
@@ -20,10 +20,6 @@ pub fn answer_unkept(records: usize, answers: &mut [u8])
     requires { records ≤ length answers.old }
     ensures { answers.new ≡ replicate records 2 ++ drop records answers.old }
 {
-    let unkept = premise_rows::number_of(Answer::NotWellKept);
-    let mut i: usize = 0;
-    while i < records {
-        answers[i] = unkept;
-        i += 1;
-    }
+    let unkept = premise_rows::number_of(Err(Refusal::NotWellKept));
+    answers[..records].fill(unkept);
 }

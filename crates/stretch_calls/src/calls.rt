@@ -13,7 +13,7 @@ const AT_ONCE: usize = 256;
 fn next_many(left: usize, most: usize) -> usize
     ensures { result ≡ min left most }
 {
-    if left < most { left } else { most }
+    left.min(most)
 }
 
 // Plays the whole records of a stretch on a well-kept book, some at once by the book layer's one loop, as long as the next is sure of its
@@ -36,6 +36,7 @@ fn play_whole(
     let mut c = b;
     let mut played: usize = 0;
     let mut sent: usize = 0;
+    // A `while`: a turn goes on by as many records as the lot has played, which may be fewer than it was given.
     while played < whole {
         let standing = records::RECORD_LENGTH * sent;
         if notices.len() - standing < book::NOTICE_BYTES {
@@ -57,8 +58,8 @@ fn play_whole(
     }
     Replies {
         answer: StretchAnswer::Taken,
-        played: played,
-        sent: sent,
+        played,
+        sent,
         book: c,
     }
 }

@@ -10,7 +10,8 @@ use borrow.Author.Tests.{ltb-true, ltb-false, lt-ltb, le-ltb}
 use Rattle.records.specs.declared.Notice.{Notice}
 use Rattle.records.specs.Layout.{record_length}
 use Rattle.records.specs.Notices.{encode_all}
-use Rattle.premise.specs.declared.Answer.TheVariants.{NotWellKept}
+use Rattle.std.specs.Prelude.{Err}
+use Rattle.premise.specs.declared.Refusal.TheVariants.{NotWellKept}
 use Rattle.premise.specs.Refusals.{number}
 use Rattle.premise.proofs.Table.{book_answers}
 use Rattle.book.specs.declared.Book.{Book}
@@ -46,23 +47,23 @@ module _ (calendar : List ℕ) (b : Book) (tape : List ℕ) (places free : ℕ) 
       → stretch_call calendar b tape places free
       ≡ record {
         answer = Taken;
-        course = record { results = replicate (whole_count tape) (refusal NotWellKept b); book = b; left = [] };
+        course = record { results = replicate (whole_count tape) (refusal (Err NotWellKept) b); book = b; left = [] };
       }
   all_two h room damaged =
       enough_answers h
       ∙ ap (λ (c : Course). record { answer = Taken; course = c })
       (row_unkept calendar free b (whole_records tape) damaged room
-      ∙ ap (λ (n : ℕ). record { results = replicate n (refusal NotWellKept b); book = b; left = [] }) (whole_many tape))
+      ∙ ap (λ (n : ℕ). record { results = replicate n (refusal (Err NotWellKept) b); book = b; left = [] }) (whole_many tape))
 
 -- ---- what many refusals with 2 give
-pub unkept_is_2 : number NotWellKept ≡ 2
+pub unkept_is_2 : number (Err NotWellKept) ≡ 2
 unkept_is_2 = ap (λ (ns : List ℕ). get_or ns 1 0) book_answers
 
-pub twos : (n : ℕ) (b : Book) → answers_of (replicate n (refusal NotWellKept b)) ≡ replicate n 2
+pub twos : (n : ℕ) (b : Book) → answers_of (replicate n (refusal (Err NotWellKept) b)) ≡ replicate n 2
 twos zero b = refl
 twos (suc n) b = ap₂ (λ (k : ℕ) (l : List ℕ). k ∷ l) unkept_is_2 (twos n b)
 
-pub no_notices : (n : ℕ) (b : Book) → notices_of (replicate n (refusal NotWellKept b)) ≡ []
+pub no_notices : (n : ℕ) (b : Book) → notices_of (replicate n (refusal (Err NotWellKept) b)) ≡ []
 no_notices zero b = refl
 no_notices (suc n) b = no_notices n b
 
@@ -121,7 +122,7 @@ two_for_each_record calendar b tape r answers₀ answers₁ notices₀ notices�
     record {
       came = record {
         answered = ap stretch_number g.answer;
-        played = g.played ∙ length-replicate n (refusal NotWellKept b);
+        played = g.played ∙ length-replicate n (refusal (Err NotWellKept) b);
         sent = g.notices.count ∙ ap length (no_notices n b);
         book = g.book;
       };

@@ -2,5 +2,5 @@
 #![tactic(auto)]
 
 fn main(rt: HostRuntime) {
-    tape_io::run(&rt, false);
+    tape_io::run::<tape_io::Loop>(&rt);
 }

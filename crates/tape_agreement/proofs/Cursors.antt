@@ -8,7 +8,7 @@ use lib.Dec.{ltb}
 use lib.ListN.{length, take, drop, length-take, length-drop}
 use borrow.Author.Tests.{ltb-true, ltb-false}
 use Rattle.lists.proofs.Find.{drop-none}
-use Rattle.records.specs.declared.Reading.TheVariants.{Malformed}
+use Rattle.std.specs.Prelude.{None}
 use Rattle.records.specs.Layout.{record_length}
 use Rattle.records.specs.Records.{reading}
 use Rattle.records.proofs.Readings.{reading-length}
@@ -20,7 +20,7 @@ use Rattle.tape_agreement.specs.Walks.{record_at, Reaches}
 
 -- fewer than 24 bytes are no record, or one that is malformed
 pub short_cut : (P : List (List ℕ) → Type 0) (tape : List ℕ) → length tape < record_length → P []
-    → ((bytes : List ℕ) → reading bytes ≡ Malformed → P (bytes ∷ []))
+    → ((bytes : List ℕ) → reading bytes ≡ None → P (bytes ∷ []))
     → P (records_in tape)
 short_cut P [] h none one = none
 short_cut P (byte ∷ tape) h none one =

@@ -1,4 +1,5 @@
 pub mod Readings
+pub mod Records
 pub mod Cursors
 pub mod Parts
 pub mod Nearest

@@ -1,35 +1,19 @@
 -- The next premise that is named: it lies above the last one, and none that is named stands between. Assumes nothing.
-use Prim.Native.Nat.{ℕ, ◌+◌, ◌-◌, ◌<◌, ◌≤◌}
-use mathlib.Core.Path.{◌≡◌, refl, ap}
+use Prim.Native.Nat.{ℕ, ◌<◌, ◌≤◌}
+use mathlib.Core.Path.{◌≡◌, refl}
 use mathlib.Core.List.{List, [], ◌∷◌, ◌++◌}
 use mathlib.Core.Bool.{Bool, true, false, cond, ◌&&◌}
 use native.Mathlib.Omega.{arith}
 use lib.Dec.{ltb}
-use lib.ListN.{length, drop, length-drop}
 use borrow.Author.Tests.{ltb-true, ltb-false}
 use Rattle.lists.specs.Search.{Each}
 use Rattle.lists.proofs.SearchLaws.{each_append}
-use Rattle.records.specs.declared.Reading.{Reading}
-use Rattle.records.specs.declared.Reading.TheVariants.{Malformed, Says}
-use Rattle.records.specs.Layout.{record_length}
+use Rattle.std.specs.Prelude.{Option, Some, None}
+use Rattle.records.specs.declared.Record.{Record}
 use Rattle.records.specs.Records.{reading, kind_day_mark}
 use Rattle.premise.specs.Steps.{is}
-use Rattle.tape_agreement_rules.specs.Agreement.{records_in, named, premises_of}
-use Rattle.tape_agreement_rules.proofs.Cuts.{cut_at}
-use Rattle.tape_agreement.specs.Walks.{record_at, nearer, nearest}
-use Rattle.tape_agreement.proofs.Cursors.{short_cut}
-
--- ---- from a place on
-module _ (last : ℕ) (tape : List ℕ) where
-  pub nearest_next : (at so_far : ℕ) → at + record_length ≤ length tape
-      → nearest last so_far (records_in (drop at tape))
-      ≡ nearest last (nearer last so_far (reading (record_at tape at))) (records_in (drop (at + record_length) tape))
-  nearest_next at so_far h = ap (nearest last so_far) (cut_at tape at (omega arith))
-
-  pub nearest_end : (at so_far : ℕ) → length tape - at < record_length → nearest last so_far (records_in (drop at tape)) ≡ so_far
-  nearest_end at so_far h =
-      short_cut (λ (rs : List (List ℕ)). nearest last so_far rs ≡ so_far) (drop at tape) (omega (arith, length-drop at tape)) refl
-      (λ bytes e. rw e)
+use Rattle.tape_agreement_rules.specs.Agreement.{named, premises_of}
+use Rattle.tape_agreement.specs.Walks.{nearer, nearest}
 
 -- ---- what it is
 -- of some premises none lies above the last one and below a number
@@ -41,9 +25,9 @@ pub record Next (last limit n : ℕ) (ns : List ℕ) : Type 0 where
   pub above : last < limit → last < n
   pub between : NoneBetween last n ns
 
-nearer_is : (last so_far : ℕ) (d : Reading) → Next last so_far (nearer last so_far d) (named d)
-nearer_is last so_far Malformed = record { most = omega arith; above = λ h. h; between = tt }
-nearer_is last so_far (Says r) = by_mark (is kind_day_mark r)
+nearer_is : (last so_far : ℕ) (d : Option Record) → Next last so_far (nearer last so_far d) (named d)
+nearer_is last so_far None = record { most = omega arith; above = λ h. h; between = tt }
+nearer_is last so_far (Some r) = by_mark (is kind_day_mark r)
   where
     by_place : (b c : Bool) → ltb last r.premise ≡ b → ltb r.premise so_far ≡ c
         → Next last so_far (cond (b && c) r.premise so_far) (r.premise ∷ [])

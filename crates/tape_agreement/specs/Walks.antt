@@ -1,7 +1,7 @@
 -- What the walks over a tape give: the next record that concerns a premise, and the next premise that is named.
 use Rattle.std.specs.Prelude.{ℕ, ◌-◌, ◌≤◌, ◌≡◌, List, [], ◌∷◌, Bool, true, false, cond, ◌&&◌, ltb, length, take, drop}
-use Rattle.records.specs.declared.Reading.{Reading}
-use Rattle.records.specs.declared.Reading.TheVariants.{Malformed, Says}
+use Rattle.std.specs.Prelude.{Option, Some, None}
+use Rattle.records.specs.declared.Record.{Record}
 use Rattle.records.specs.Layout.{record_length}
 use Rattle.records.specs.Records.{reading, kind_day_mark}
 use Rattle.premise.specs.Steps.{is}
@@ -14,14 +14,14 @@ abbrev pub record_at : List ℕ → ℕ → List ℕ
 record_at tape at = take record_length (drop at tape)
 
 -- whether bytes are well formed
-abbrev pub is_said : Reading → Bool
-is_said Malformed = false
-is_said (Says r) = true
+abbrev pub is_said : Option Record → Bool
+is_said None = false
+is_said (Some r) = true
 
 -- the premise that a record names, if it lies above the last one and below the nearest so far; else that
-abbrev pub nearer : ℕ → ℕ → Reading → ℕ
-nearer last so_far Malformed = so_far
-nearer last so_far (Says r) =
+abbrev pub nearer : ℕ → ℕ → Option Record → ℕ
+nearer last so_far None = so_far
+nearer last so_far (Some r) =
     cond (is kind_day_mark r) so_far (cond (ltb last r.premise && ltb r.premise so_far) r.premise so_far)
 
 -- the smallest that some records name above the last one and below a limit; the limit where there is none

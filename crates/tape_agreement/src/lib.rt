@@ -6,5 +6,6 @@ mod agreeing;
 mod own;
 mod places;
 mod premises;
+mod record;
 
 pub use agreeing::compare;

@@ -3,21 +3,19 @@ ghost use Rattle.std.specs.Prelude.{◌≡◌};
 ghost use Rattle.tape_agreement_rules.specs.Agreement.{records_in};
 ghost use Rattle.tape_agreement.specs.Walks.{nearest, next_named};
 
-use crate::places;
+use crate::record::nearer;
 use records::RECORD_LENGTH;
 
 // The largest premise there is.
-pub const LAST_PREMISE: u64 = 18_446_744_073_709_551_615;
+pub const LAST_PREMISE: u64 = u64::MAX;
 
 // The smallest premise above the last one that a tape names below a limit; the limit where it names none.
 pub fn next_below(tape: &[u8], last: u64, limit: u64) -> u64
     ensures { result ≡ nearest last limit (records_in tape.now) }
 {
     let mut premise = limit;
-    let mut at: usize = 0;
-    while RECORD_LENGTH <= tape.len() - at {
-        premise = places::nearer_at(tape, at, last, premise);
-        at += RECORD_LENGTH;
+    for record in tape.as_chunks::<RECORD_LENGTH>().0 {
+        premise = nearer(record, last, premise);
     }
     premise
 }

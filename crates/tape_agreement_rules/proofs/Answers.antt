@@ -3,7 +3,7 @@
 use Prim.Native.Nat.{ℕ, ◌<◌, ◌≤◌}
 use mathlib.Core.Path.{◌≡◌, refl, ap, sym, subst, ◌∙◌}
 use mathlib.Core.List.{List, ◌++◌}
-use mathlib.Core.Option.{Option, none, some}
+use Rattle.std.specs.Prelude.{Option, Some, None}
 use mathlib.Core.Bool.{Bool, true, false, cond, false≢true}
 use native.Mathlib.Omega.{arith}
 use lib.Dec.{ltb}
@@ -53,11 +53,11 @@ module _ (ours theirs : List ℕ) (real : Bytes ours) (real₂ : Bytes theirs) w
       (named_ranged them (cut_bytes theirs real₂))
 
   found : MarksAgree ours theirs → (o : Option ℕ) → Smallest (differ_at us them) both o → Tells ours theirs (answer_of o)
-  found marks none s =
+  found marks None s =
       λ premise p.
       by_names us them premise marks
       (each_map (λ (n : ℕ). differ_at us them n ≡ false) (λ (n : ℕ). n ≡ premise → Agreed n) (λ n e is. agree_of us them n e) both s)
-  found marks (some m) s =
+  found marks (Some m) s =
       record {
         marks = marks;
         ranged = of_each Premise m both s.stands ranged;

@@ -2,7 +2,7 @@
 use Prim.Native.Nat.{ℕ, ◌<◌, min}
 use mathlib.Core.Path.{◌≡◌, refl, ap₂, subst, sym, ◌∙◌}
 use mathlib.Core.List.{List, [], ◌∷◌, ◌++◌}
-use mathlib.Core.Option.{Option, none, some}
+use Rattle.std.specs.Prelude.{Option, Some, None}
 use mathlib.Core.Bool.{Bool, true, false, cond, ◌&&◌, ◌||◌, false≢true}
 use native.Mathlib.Omega.{arith}
 use lib.Dec.{eqb, leb}
@@ -72,8 +72,8 @@ pub record SmallestIs (test : ℕ → Bool) (ns : List ℕ) (m : ℕ) : Type 0 w
   pub below : Each (λ (n : ℕ). n < m → test n ≡ false) ns
 
 abbrev pub Smallest : (ℕ → Bool) → List ℕ → Option ℕ → Type 0
-Smallest test ns none = Each (λ (n : ℕ). test n ≡ false) ns
-Smallest test ns (some m) = SmallestIs test ns m
+Smallest test ns None = Each (λ (n : ℕ). test n ≡ false) ns
+Smallest test ns (Some m) = SmallestIs test ns m
 
 or-true : (a b : Bool) → b ≡ true → (a || b) ≡ true
 or-true true b e = refl
@@ -106,7 +106,7 @@ smallest test (n ∷ ns) = go (test n) refl (smallest_of test ns) (smallest test
         subst (SmallestIs test (n ∷ ns)) e (later m (λ b. absurd (omega (arith, b, less))) s)
 
     go : (t : Bool) → test n ≡ t → (o : Option ℕ) → Smallest test ns o → Smallest test (n ∷ ns) (cond t (smaller n o) o)
-    go true t none s = first t (each_map (λ (k : ℕ). test k ≡ false) (λ (k : ℕ). k < n → test k ≡ false) (λ k f b. f) ns s)
-    go true t (some m) s = both t m s (leb n m) refl
-    go false t none s = (t, s)
-    go false t (some m) s = later m (λ l. t) s
+    go true t None s = first t (each_map (λ (k : ℕ). test k ≡ false) (λ (k : ℕ). k < n → test k ≡ false) (λ k f b. f) ns s)
+    go true t (Some m) s = both t m s (leb n m) refl
+    go false t None s = (t, s)
+    go false t (Some m) s = later m (λ l. t) s

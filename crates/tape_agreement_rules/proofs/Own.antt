@@ -7,8 +7,8 @@ use lib.Dec.{eqb}
 use borrow.Author.Tests.{ne_eqb, not-true, not-false}
 use Rattle.lists.specs.Search.{Each}
 use Rattle.lists.proofs.SearchLaws.{each_append}
-use Rattle.records.specs.declared.Reading.{Reading}
-use Rattle.records.specs.declared.Reading.TheVariants.{Malformed, Says}
+use Rattle.std.specs.Prelude.{Option, Some, None}
+use Rattle.records.specs.declared.Record.{Record}
 use Rattle.records.specs.Layout.{Bytes}
 use Rattle.records.specs.Records.{reading, kind_day_mark}
 use Rattle.premise.specs.Steps.{is}
@@ -32,24 +32,24 @@ own_unnamed premise (bytes ∷ rs) h = go (reading bytes) h (own_unnamed premise
     by_mark true n u ih = ap (λ (l : List (List ℕ)). bytes ∷ l) (ih u)
     by_mark false n u ih = rw (ne_eqb n premise u.0) (ih u.1)
 
-    go : (d : Reading) → Each (Other premise) (named d ++ premises_of rs)
+    go : (d : Option Record) → Each (Other premise) (named d ++ premises_of rs)
         → (Each (Other premise) (premises_of rs) → own_of premise rs ≡ marks_of rs)
         → cond (concerns premise d) (bytes ∷ own_of premise rs) (own_of premise rs) ≡ cond (is_mark d) (bytes ∷ marks_of rs) (marks_of rs)
-    go Malformed u ih = ih u
-    go (Says r) u ih = by_mark (is kind_day_mark r) r.premise u ih
+    go None u ih = ih u
+    go (Some r) u ih = by_mark (is kind_day_mark r) r.premise u ih
 
 -- ---- the day marks are among what concerns any premise
 pub marks_of_own : (premise : ℕ) (rs : List (List ℕ)) → marks_of (own_of premise rs) ≡ marks_of rs
 marks_of_own premise [] = refl
 marks_of_own premise (bytes ∷ rs) = go (reading bytes) refl (marks_of_own premise rs)
   where
-    kept : (d : Reading) → reading bytes ≡ d → marks_of (own_of premise rs) ≡ marks_of rs
+    kept : (d : Option Record) → reading bytes ≡ d → marks_of (own_of premise rs) ≡ marks_of rs
         → marks_of (bytes ∷ own_of premise rs) ≡ cond (is_mark d) (bytes ∷ marks_of rs) (marks_of rs)
     kept d e ih =
-        ap (λ (x : Reading). cond (is_mark x) (bytes ∷ marks_of (own_of premise rs)) (marks_of (own_of premise rs))) e
+        ap (λ (x : Option Record). cond (is_mark x) (bytes ∷ marks_of (own_of premise rs)) (marks_of (own_of premise rs))) e
         ∙ ap (λ (l : List (List ℕ)). cond (is_mark d) (bytes ∷ l) l) ih
 
-    by_own : (d : Reading) → reading bytes ≡ d → marks_of (own_of premise rs) ≡ marks_of rs → (own : Bool)
+    by_own : (d : Option Record) → reading bytes ≡ d → marks_of (own_of premise rs) ≡ marks_of rs → (own : Bool)
         → (own ≡ false → is_mark d ≡ false)
         → marks_of (cond own (bytes ∷ own_of premise rs) (own_of premise rs)) ≡ cond (is_mark d) (bytes ∷ marks_of rs) (marks_of rs)
     by_own d e ih true unmarked = kept d e ih
@@ -59,12 +59,12 @@ marks_of_own premise (bytes ∷ rs) = go (reading bytes) refl (marks_of_own prem
     by_mark true other e = e
     by_mark false other e = refl
 
-    go : (d : Reading) → reading bytes ≡ d → marks_of (own_of premise rs) ≡ marks_of rs
+    go : (d : Option Record) → reading bytes ≡ d → marks_of (own_of premise rs) ≡ marks_of rs
         → marks_of (cond (concerns premise d) (bytes ∷ own_of premise rs) (own_of premise rs))
         ≡ cond (is_mark d) (bytes ∷ marks_of rs) (marks_of rs)
-    go Malformed e ih = by_own Malformed e ih false (λ z. refl)
-    go (Says r) e ih =
-        by_own (Says r) e ih (concerns premise (Says r)) (by_mark (is kind_day_mark r) (eqb r.premise premise))
+    go None e ih = by_own None e ih false (λ z. refl)
+    go (Some r) e ih =
+        by_own (Some r) e ih (concerns premise (Some r)) (by_mark (is kind_day_mark r) (eqb r.premise premise))
 
 -- who agrees at a premise agrees on the marks
 pub marks_too : (premise : ℕ) (us them : List (List ℕ)) → own_of premise us ≡ own_of premise them → marks_of us ≡ marks_of them
@@ -76,9 +76,9 @@ named_ranged [] u = tt
 named_ranged (bytes ∷ rs) u =
     each_append Premise (named (reading bytes)) (premises_of rs) (go (reading bytes) (sound bytes u.0)) (named_ranged rs u.1)
   where
-    go : (d : Reading) → SoundIn d → Each Premise (named d)
-    go Malformed s = tt
-    go (Says r) s = by_mark (is kind_day_mark r) s.ranged
+    go : (d : Option Record) → SoundIn d → Each Premise (named d)
+    go None s = tt
+    go (Some r) s = by_mark (is kind_day_mark r) s.ranged
       where
         by_mark : (mark : Bool) → (mark ≡ false → Premise r.premise) → Each Premise (cond mark [] (r.premise ∷ []))
         by_mark true p = tt

@@ -1,8 +1,7 @@
 -- Document 02, change 10: when our tape agrees with the second supplier's, and where not.
 use Rattle.std.specs.Prelude.{ℕ, min, ◌≡◌, List, [], ◌∷◌, ◌++◌, Bool, true, false, cond, not, ◌&&◌, eqb, length}
-use Rattle.std.proofs.Math.Option.{Option, none, some}
-use Rattle.records.specs.declared.Reading.{Reading}
-use Rattle.records.specs.declared.Reading.TheVariants.{Malformed, Says}
+use Rattle.std.specs.Prelude.{Option, Some, None}
+use Rattle.records.specs.declared.Record.{Record}
 use Rattle.records.specs.Records.{reading, kind_day_mark}
 use Rattle.premise.specs.Steps.{is}
 use Rattle.book.specs.CallsInRow.{records_of}
@@ -30,18 +29,18 @@ records_in tape = records_of (length tape) tape
 
 -- "the well-formed records naming it together with the day marks" are those that concern a premise in demand 3: `own_of`. "the day marks by
 -- themselves", also where a call would answer 15:
-abbrev pub is_mark : Reading → Bool
-is_mark Malformed = false
-is_mark (Says r) = is kind_day_mark r
+abbrev pub is_mark : Option Record → Bool
+is_mark None = false
+is_mark (Some r) = is kind_day_mark r
 
 abbrev pub marks_of : List (List ℕ) → List (List ℕ)
 marks_of [] = []
 marks_of (bytes ∷ rest) = cond (is_mark (reading bytes)) (bytes ∷ marks_of rest) (marks_of rest)
 
 -- the premises that well-formed records name
-abbrev pub named : Reading → List ℕ
-named Malformed = []
-named (Says r) = cond (is kind_day_mark r) [] (r.premise ∷ [])
+abbrev pub named : Option Record → List ℕ
+named None = []
+named (Some r) = cond (is kind_day_mark r) [] (r.premise ∷ [])
 
 abbrev pub premises_of : List (List ℕ) → List ℕ
 premises_of [] = []
@@ -67,16 +66,16 @@ differ_at ours theirs premise = not (same_records (own_of premise ours) (own_of 
 -- ---- "the smallest P at which they differ"
 -- the smallest of some numbers that pass a test
 abbrev pub smaller : ℕ → Option ℕ → Option ℕ
-smaller n none = some n
-smaller n (some m) = some (min n m)
+smaller n None = Some n
+smaller n (Some m) = Some (min n m)
 
 abbrev pub smallest_of : (ℕ → Bool) → List ℕ → Option ℕ
-smallest_of test [] = none
+smallest_of test [] = None
 smallest_of test (n ∷ ns) = cond (test n) (smaller n (smallest_of test ns)) (smallest_of test ns)
 
 abbrev pub answer_of : Option ℕ → Agreement
-answer_of none = Same
-answer_of (some premise) = Differ premise
+answer_of None = Same
+answer_of (Some premise) = Differ premise
 
 -- A premise that neither tape names has the day marks alone, so that only those named on either can differ where the marks don't.
 abbrev pub agreement_of : List (List ℕ) → List (List ℕ) → Agreement

@@ -8,6 +8,7 @@ ghost use Rattle.book.specs.CallsInRow.{records_of};
 ghost use Rattle.tape_book.specs.Played.{book_after};
 
 use book::Book;
+use records::RECORD_LENGTH;
 
 // Plays a tape over a fresh book at day 0, a record call each; the notices are not looked at.
 pub fn played(calendar: &[u8], tape: &[u8], notices: &mut [u8]) -> Book
@@ -16,12 +17,8 @@ pub fn played(calendar: &[u8], tape: &[u8], notices: &mut [u8]) -> Book
         (records_of (length tape.now) tape.now) }
 {
     let mut b = book_calls::fresh(0);
-    let mut from: usize = 0;
-    while from < tape.len() {
-        let to = book_player::record_end(from, tape.len());
-        let reply = book_calls::record_call(calendar, b, &tape[from..to], notices);
-        b = reply.book;
-        from = to;
+    for record in tape.chunks(RECORD_LENGTH) {
+        b = book_calls::record_call(calendar, b, record, notices).book;
     }
     b
 }

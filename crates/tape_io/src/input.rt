@@ -1,47 +1,38 @@
 // The programs' reading, from files and from standard input.
-ghost use Rattle.std.specs.Prelude.{◌+◌, ◌≤◌, length};
+ghost use Rattle.std.specs.Prelude.{◌≤◌, length, IfOk, MatchResult};
 
-use crate::got::{Got, failed_with};
 use std::io::{ErrorKind, Read};
 use std::rt::Files;
 use std::{fs, io, str};
 
-// One read, behind the bytes that stand in a buffer: how many came, or why it failed.
-fn read_on<R: Read>(reader: &mut R, done: usize, buffer: &mut [u8]) -> Got
-    requires { done ≤ length buffer.old }
-    ensures { done + result.count ≤ length buffer.new }
-{
-    match reader.read(&mut buffer[done..]) {
-        Ok(count) => Got {
-            count: count,
-            failed: None,
-        },
-        Err(error) => failed_with(error),
+// Input that broke off: how many bytes came before the read that failed, and why it did.
+#[derive(Clone, Copy)]
+pub struct Cut {
+    pub count: usize,
+    pub error: io::Error,
+}
+
+impl From<Cut> for io::Error {
+    fn from(cut: Cut) -> io::Error {
+        cut.error
     }
 }
 
-// Reads until the buffer is full, the input ends or a read fails. Input may come in pieces.
-pub fn read_up_to<R: Read>(reader: &mut R, buffer: &mut [u8]) -> Got
-    ensures { result.count ≤ length buffer.new }
+// Reads until the buffer is full, the input ends or a read fails; how many bytes came. Input may come in pieces: how long each is the reader
+// says, so that no `for` counts them.
+pub fn fill<R: Read>(reader: &mut R, buffer: &mut [u8]) -> Result<usize, Cut>
+    ensures { MatchResult result (λ n. n ≤ length buffer.new)
+        (λ cut. cut.count ≤ length buffer.new) }
 {
-    let mut done: usize = 0;
-    while done < buffer.len() {
-        let got = read_on(reader, done, buffer);
-        if got.failed.is_some() {
-            return Got {
-                count: done,
-                failed: got.failed,
-            };
+    let mut count = 0;
+    while count < buffer.len() {
+        match reader.read(&mut buffer[count..]) {
+            Ok(0) => break,
+            Ok(more) => count += more,
+            Err(error) => return Err(Cut { count, error }),
         }
-        if got.count == 0 {
-            break;
-        }
-        done += got.count;
     }
-    Got {
-        count: done,
-        failed: None,
-    }
+    Ok(count)
 }
 
 // Opens a file for reading. A name is text: the system is asked for no other.
@@ -52,23 +43,13 @@ pub fn open<R: Files>(files: &R, path: &[u8]) -> io::Result<R::File> {
     }
 }
 
-// Why a file could not be opened, but for one that is absent.
-fn unless_absent(error: io::Error) -> Option<io::Error> {
-    match error.kind() {
-        ErrorKind::NotFound => None,
-        _ => Some(error),
-    }
-}
-
-// Reads the first bytes of a file. An absent one counts as empty.
-pub fn read_file(files: &impl Files, path: &[u8], buffer: &mut [u8]) -> Got
-    ensures { result.count ≤ length buffer.new }
+// Reads the first bytes of a file; how many came. An absent one counts as empty.
+pub fn fill_from(files: &impl Files, path: &[u8], buffer: &mut [u8]) -> io::Result<usize>
+    ensures { IfOk result (λ n. n ≤ length buffer.new) }
 {
     match open(files, path) {
-        Ok(mut file) => read_up_to(&mut file, buffer),
-        Err(error) => Got {
-            count: 0,
-            failed: unless_absent(error),
-        },
+        Ok(mut file) => Ok(fill(&mut file, buffer)?),
+        Err(error) if error.kind() == ErrorKind::NotFound => Ok(0),
+        Err(error) => Err(error),
     }
 }

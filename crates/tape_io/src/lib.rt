@@ -2,16 +2,16 @@
 // played from its bytes and its text written; and the tape program itself, whichever way its records are played.
 #![tactic(auto)]
 
-mod got;
 mod input;
 mod messages;
 mod playing;
 mod program;
 mod words;
 
-pub use got::{Got, failed_with};
-pub use input::{open, read_file, read_up_to};
+pub use call_player::Calls;
+pub use input::{Cut, fill, fill_from, open};
 pub use messages::{fail, say};
 pub use playing::{CALENDAR_BYTES, TAPE_BYTES, play};
-pub use program::{advise, run};
+pub use program::{advise, complain, print_of_tape, run, with_tape};
+pub use tape_player::Loop;
 pub use words::{WORD_BYTES, count_words, file_name, word};

@@ -2,12 +2,17 @@
 ghost use Rattle.std.specs.Prelude.{◌≡◌};
 ghost use Rattle.tape_io.specs.Advice.{is_character, begins_as_text};
 
+use crate::input::{fill, fill_from};
 use crate::messages::{fail, say};
+use crate::playing::{CALENDAR_BYTES, TAPE_BYTES, play};
 use std::io;
+use tape_player::Player;
 
-// Says on standard error what went wrong and what to do.
-fn complain(rt: &HostRuntime, what: &[u8], error: io::Error, advice: &[u8]) {
+// Says on standard error, in a program's name, what went wrong and what to do.
+pub fn complain(rt: &HostRuntime, program: &[u8], what: &[u8], error: io::Error, advice: &[u8]) {
+    say(rt, program);
     fail(rt, what, error);
+    say(rt, program);
     say(rt, advice);
 }
 
@@ -15,7 +20,7 @@ fn complain(rt: &HostRuntime, what: &[u8], error: io::Error, advice: &[u8]) {
 fn is_character(byte: u8) -> bool
     ensures { result ≡ is_character byte }
 {
-    ((b' ' <= byte) & (byte <= b'~')) | ((b'\t' <= byte) & (byte <= b'\r'))
+    matches!(byte, b' '..=b'~' | b'\t'..=b'\r')
 }
 
 // Whether a tape begins as a readable one does, with four characters: the second of a record would be its detail.
@@ -46,48 +51,65 @@ pub fn advise(rt: &HostRuntime, program: &[u8], days: usize, tape: &[u8]) {
     }
 }
 
-// The tape program, with the records played by one loop over them or by a record call each: it reads the first 4,096 bytes of calendar.bin
-// (absent counts as empty), plays the first 65,520 bytes of standard input over a fresh book at day 0, and prints what the calls gave.
-pub fn run(rt: &HostRuntime, by_calls: bool) {
-    let mut calendar = [0u8; crate::playing::CALENDAR_BYTES];
-    let days = crate::input::read_file(rt, b"calendar.bin", &mut calendar);
-    if let Some(error) = days.failed {
-        complain(
+// Reads the first 4,096 bytes of calendar.bin (absent counts as empty) and the first 65,520 bytes of standard input, a tape, and hands them
+// on. What can't be read is told on standard error, in a program's name, and then nothing is handed on.
+pub fn with_tape<F: FnOnce(&[u8], &[u8])>(rt: &HostRuntime, program: &[u8], play: F)
+    requires { F.IsAlwaysCallable play }
+{
+    let mut calendar = [0u8; CALENDAR_BYTES];
+    let days = match fill_from(rt, b"calendar.bin", &mut calendar) {
+        Ok(days) => days,
+        Err(error) => {
+            complain(
+                rt,
+                program,
+                b": cannot read calendar.bin in the current folder",
+                error,
+                b": nothing was played; make it a readable file, or remove it to play with an empty calendar\n",
+            );
+            return;
+        }
+    };
+    let mut tape = [0u8; TAPE_BYTES];
+    let bytes = match fill(&mut rt.stdin(), &mut tape) {
+        Ok(bytes) => bytes,
+        Err(cut) => {
+            complain(
+                rt,
+                program,
+                b": cannot read the tape from standard input",
+                cut.error,
+                b": nothing was played; give a readable file or pipe, as in: ",
+            );
+            say(rt, program);
+            say(rt, b" < TAPE\n");
+            return;
+        }
+    };
+    play(&calendar[..days], &tape[..bytes]);
+}
+
+// A program that prints something of a calendar and a tape: both are read, handed on to be printed, and what is wrong is told.
+pub fn print_of_tape<F: FnOnce(&[u8], &[u8]) -> io::Result<()>>(
+    rt: &HostRuntime,
+    program: &[u8],
+    print: F,
+)
+    requires { F.IsAlwaysCallable print }
+{
+    with_tape(rt, program, |calendar, tape| match print(calendar, tape) {
+        Ok(()) => advise(rt, program, calendar.len(), tape),
+        Err(error) => complain(
             rt,
-            b"tape: cannot read calendar.bin in the current folder",
+            program,
+            b": cannot write to standard output",
             error,
-            b"tape: nothing was played; make it a readable file, or remove it to play with an empty calendar\n",
-        );
-        return;
-    }
-    let mut tape = [0u8; crate::playing::TAPE_BYTES];
-    let read = crate::input::read_up_to(&mut rt.stdin(), &mut tape);
-    if let Some(error) = read.failed {
-        complain(
-            rt,
-            b"tape: cannot read the tape from standard input",
-            error,
-            b"tape: nothing was played; give a readable file or pipe, as in: tape < TAPE\n",
-        );
-        return;
-    }
-    let days_read = days.count;
-    let bytes_read = read.count;
-    // a part is written `0..n`, so that the prover finds its length by itself
-    let written = crate::playing::play_by(
-        rt,
-        by_calls,
-        &calendar[0..days_read],
-        &tape[0..bytes_read],
-    );
-    if let Err(error) = written {
-        complain(
-            rt,
-            b"tape: cannot write to standard output",
-            error,
-            b"tape: the output is not whole; make room or give another place, and play the tape again\n",
-        );
-        return;
-    }
-    advise(rt, b"tape", days_read, &tape[0..bytes_read]);
+            b": the output is not whole; make room or give another place, and play the tape again\n",
+        ),
+    });
+}
+
+// The tape program, whoever plays the records: over a fresh book at day 0, and it prints what the calls gave.
+pub fn run<P: Player>(rt: &HostRuntime) {
+    print_of_tape(rt, b"tape", |calendar, tape| play::<P>(rt, calendar, tape));
 }

@@ -12,11 +12,12 @@ use Rattle.records.specs.Records.{last_retailer}
 use Rattle.records.specs.Notices.{decode, encode}
 use Rattle.records.proofs.Notices.{encode_bytes}
 use Rattle.premise.specs.declared.File.{File}
-use Rattle.premise.specs.declared.Answer.{Answer}
-use Rattle.premise.specs.declared.Answer.TheVariants.{Accepted, ShortBuffer, NotWellKept, MalformedRecord, NoSuchPremise, OtherAgreement}
-use Rattle.premise.specs.declared.Answer.TheVariants.{PremiseHeld, BookFull, OrderOpen, ReferenceHeld, DayOutOfRange, NoSwitchDate}
-use Rattle.premise.specs.declared.Answer.TheVariants.{NotFirstIn, RetailerShareFull, StackFull, NoSuchOrder, StatusNotTaken}
-use Rattle.premise.specs.declared.Answer.TheVariants.{CounterNotAbove, OrderInWindow, NotNextDay}
+use Rattle.std.specs.Prelude.{Ok, Err}
+use Rattle.premise.specs.Refusals.{Answer}
+use Rattle.premise.specs.declared.Refusal.TheVariants.{ShortBuffer, NotWellKept, MalformedRecord, NoSuchPremise, OtherAgreement, PremiseHeld}
+use Rattle.premise.specs.declared.Refusal.TheVariants.{BookFull, OrderOpen, ReferenceHeld, DayOutOfRange, NoSwitchDate, NotFirstIn}
+use Rattle.premise.specs.declared.Refusal.TheVariants.{RetailerShareFull, StackFull, NoSuchOrder, StatusNotTaken, CounterNotAbove, OrderInWindow}
+use Rattle.premise.specs.declared.Refusal.TheVariants.{NotNextDay}
 use Rattle.premise.specs.Refusals.{number}
 use Rattle.premise.specs.WellKept.{FileKept}
 use Rattle.book.specs.Book.{files_of}
@@ -33,26 +34,26 @@ use Rattle.tape_output.specs.Stretches.{ending_most, Ready}
 -- ---- a record's line
 pub number_most : (answer : Answer) → number answer ≤ last_answer
 unfolding number
-number_most Accepted = omega arith
-number_most ShortBuffer = omega arith
-number_most NotWellKept = omega arith
-number_most MalformedRecord = omega arith
-number_most NoSuchPremise = omega arith
-number_most OtherAgreement = omega arith
-number_most PremiseHeld = omega arith
-number_most BookFull = omega arith
-number_most OrderOpen = omega arith
-number_most ReferenceHeld = omega arith
-number_most DayOutOfRange = omega arith
-number_most NoSwitchDate = omega arith
-number_most NotFirstIn = omega arith
-number_most RetailerShareFull = omega arith
-number_most StackFull = omega arith
-number_most NoSuchOrder = omega arith
-number_most StatusNotTaken = omega arith
-number_most CounterNotAbove = omega arith
-number_most OrderInWindow = omega arith
-number_most NotNextDay = omega arith
+number_most (Ok tt) = omega arith
+number_most (Err ShortBuffer) = omega arith
+number_most (Err NotWellKept) = omega arith
+number_most (Err MalformedRecord) = omega arith
+number_most (Err NoSuchPremise) = omega arith
+number_most (Err OtherAgreement) = omega arith
+number_most (Err PremiseHeld) = omega arith
+number_most (Err BookFull) = omega arith
+number_most (Err OrderOpen) = omega arith
+number_most (Err ReferenceHeld) = omega arith
+number_most (Err DayOutOfRange) = omega arith
+number_most (Err NoSwitchDate) = omega arith
+number_most (Err NotFirstIn) = omega arith
+number_most (Err RetailerShareFull) = omega arith
+number_most (Err StackFull) = omega arith
+number_most (Err NoSuchOrder) = omega arith
+number_most (Err StatusNotTaken) = omega arith
+number_most (Err CounterNotAbove) = omega arith
+number_most (Err OrderInWindow) = omega arith
+number_most (Err NotNextDay) = omega arith
 
 -- ---- the lines of notices: rows of bytes
 encoded_bytes : (xs : List Notice) → Each Bytes (map encode xs)

@@ -16,7 +16,8 @@ pub struct Playing {
     pub book: Book,
 }
 
-// A tape after a stretch: how many bytes of text there are, and whether they are the last.
+// A tape after a stretch: how many bytes of text there are, and whether they are the last. No variants: the text is written in either case,
+// and the specs read all three.
 #[derive(Clone, Copy)]
 pub struct Stretch {
     pub playing: Playing,
@@ -28,10 +29,8 @@ pub struct Stretch {
 pub fn start() -> Playing
     ensures { result ≡ starting }
 {
-    let reader = tape_reader::start();
-    let b = book_files::empty(0);
     Playing {
-        reader: reader,
-        book: b,
+        reader: Reader::start(),
+        book: book_files::empty(0),
     }
 }

@@ -28,7 +28,7 @@ use Rattle.tape_output.proofs.Courses.{course_text_fits}
 use Rattle.tape_output.proofs.Left.{left_first}
 use Rattle.tape_output.proofs.Ready.{calls_left, calls_within, calls_ready}
 use Rattle.tape_output.proofs.Stretches.{at_once_many, closing_fits}
-use Rattle.tape_player.specs.declared.stretch_text.Told.{Told}
+use Rattle.tape_reader.specs.declared.Reader.{Reader}
 use Rattle.tape_player.specs.Noted.{noted_texts, sum, Printable}
 use Rattle.tape_player.proofs.Noted.{sum_counts, noted_results}
 
@@ -137,17 +137,17 @@ module _ (calendar tape : List ℕ) (p : Playing) (answers counts notices out : 
           }
 
       -- ---- their text is put
-      module _ (told : Told) (middle : List ℕ)
-          (prints : (told.reader ≡ counted_all p.reader (take r.played answers')) × Puts 0 out middle told.stop noted) where
+      module _ (reader : Reader) (stop : ℕ) (middle : List ℕ)
+          (prints : (reader ≡ counted_all p.reader (take r.played answers')) × Puts 0 out middle stop noted) where
         abbrev on : Playing
-        on = record { reader = told.reader; book = r.book }
+        on = record { reader = reader; book = r.book }
 
         on_is : on ≡ after_calls p.reader course
         on_is =
-            let reader = prints.0 ∙ ap (counted_all p.reader) answers_are in
-            λ i. record { reader = reader i; book = plays.book i }
+            let counted = prints.0 ∙ ap (counted_all p.reader) answers_are in
+            λ i. record { reader = counted i; book = plays.book i }
 
-        put : Puts 0 out middle told.stop text
+        put : Puts 0 out middle stop text
         put = puts_as noted_is prints.1
 
         middle_length : length middle ≡ length out
@@ -156,13 +156,13 @@ module _ (calendar tape : List ℕ) (p : Playing) (answers counts notices out : 
         on_ready : Ready on
         on_ready = subst⁻¹ Ready on_is (calls_ready calendar stretch_notices p firsts tape others parts asked.0)
 
-        pub close_asks : Ready on × (length tape ≤ tape_most) × (told.stop ≤ length middle)
+        pub close_asks : Ready on × (length tape ≤ tape_most) × (stop ≤ length middle)
         close_asks = (on_ready, asked.1, omega (arith, put.end, middle_length, fits))
 
         -- ---- and then what closes
-        stretch_is : stretch calendar (length out) p (left p tape) ≡ behind text (closing (length middle - told.stop) on (left on tape))
+        stretch_is : stretch calendar (length out) p (left p tape) ≡ behind text (closing (length middle - stop) on (left on tape))
         stretch_is =
-            let rest : length out - length text ≡ length middle - told.stop = omega (arith, put.end, middle_length) in
+            let rest : length out - length text ≡ length middle - stop = omega (arith, put.end, middle_length) in
             ap (λ (n : ℕ).
             text_then (length out) p.reader (calls_in_row calendar stretch_notices p.book (take n (left p tape))) (drop n (left p tape)))
             (at_once_many (length out) roomy.text)
@@ -171,11 +171,11 @@ module _ (calendar tape : List ℕ) (p : Playing) (answers counts notices out : 
             ∙ ap₂ (λ (room : ℕ) (q : Playing). behind text (closing room q (left q tape))) rest (sym on_is)
 
         pub stretch_plays : {s : Stretch} {last : List ℕ}
-            → Plays told.stop (closing (length middle - told.stop) on (left on tape)) s middle last
+            → Plays stop (closing (length middle - stop) on (left on tape)) s middle last
             → Plays 0 (stretch calendar (length out) p (left p tape)) s out last
         stretch_plays {s} {last} closes =
-            let close = closing (length middle - told.stop) on (left on tape) in
-            let most = closing_fits (length middle - told.stop) on (left on tape) on_ready in
+            let close = closing (length middle - stop) on (left on tape) in
+            let most = closing_fits (length middle - stop) on (left on tape) on_ready in
             let room : 0 + length (text ++ close.text) ≤ length out =
             omega (arith, length-append text close.text, put.end, middle_length, most, fits) in
             subst⁻¹ (λ (x : Stretched). Plays 0 x s out last) stretch_is

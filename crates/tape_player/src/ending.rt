@@ -1,52 +1,42 @@
 // How a stretch of a tape closes, with the text of the end.
-ghost use Rattle.std.specs.Prelude.{◌+◌, ◌-◌, ◌≤◌, length};
+ghost use Rattle.std.specs.Prelude.{◌≡◌, ◌+◌, ◌-◌, ◌≤◌, length};
 ghost use Rattle.tape_text.specs.Numbers.{Puts};
 ghost use Rattle.tape_output.specs.Output.{tape_most, ending};
 ghost use Rattle.tape_output.specs.Stretches.{ending_most, closing, left, Ready, Plays};
 
-use tape_output::{Playing, Stretch};
+use tape_output::Playing;
+use tape_text::Text;
 
 // The most bytes of text that the end can take: 64 lines of files, and the last line.
 pub const MOST_ENDING: usize = 2_764;
 
 // The end: a line for each file, and the last line.
-fn put_ending(p: Playing, start: usize, out: &mut [u8]) -> usize
-    requires { Ready p × (start + ending_most ≤ length out.old) }
-    ensures { Puts start out.old out.new result (ending p) }
+fn put_ending(p: &Playing, text: &mut Text)
+    requires { Ready p.now × (text.old.at + ending_most ≤ length text.old.out.now) }
+    ensures same_buffer { text.new.out.ghost_name ≡ text.old.out.ghost_name }
+    ensures puts { Puts text.old.at text.old.out.now text.new.out.now text.new.at (ending p.now) }
 {
-    let b = p.book;
-    let n = b.count;
-    let mut at = start;
-    let mut i: usize = 0;
-    while i < n {
-        let f = b.files[i];
-        at = tape_text::put_file(f.premise, f.retailer, f.since, at, out);
-        i += 1;
+    for file in &p.book.files[..p.book.count] {
+        text.file(file.premise, file.retailer, file.since);
     }
-    let reader = p.reader;
-    tape_text::put_total(reader.accepted, reader.refused, at, out)
+    text.total(p.reader.accepted, p.reader.refused);
 }
 
-// How a stretch closes, behind the text of its records: where no record of the tape is left and the end finds room, the end is put.
-pub fn close(p: Playing, tape: &[u8], stop: usize, out: &mut [u8]) -> Stretch
-    requires { Ready p × (length tape.now ≤ tape_most) × (stop ≤ length out.old) }
-    ensures { Plays stop (closing (length out.old - stop) p (left p tape.now)) result
-        out.old out.new }
+// How a stretch closes, behind the text of its records: where no record of the tape is left and the end finds room, the end is put. Whether
+// it is.
+pub fn close(p: &Playing, tape: &[u8], text: &mut Text) -> bool
+    requires { Ready p.now × (length tape.now ≤ tape_most) × (text.old.at ≤ length text.old.out.now) }
+    ensures same_buffer { text.new.out.ghost_name ≡ text.old.out.ghost_name }
+    ensures plays { Plays text.old.at
+        (closing (length text.old.out.now - text.old.at) p.now (left p.now tape.now))
+        (record { playing = p.now; stop = text.new.at; done = result })
+        text.old.out.now text.new.out.now }
 {
-    let reader = p.reader;
-    if tape.len() <= records::RECORD_LENGTH * reader.place {
-        if MOST_ENDING <= out.len() - stop {
-            let end = put_ending(p, stop, out);
-            return Stretch {
-                playing: p,
-                stop: end,
-                done: true,
-            };
-        }
+    if records::RECORD_LENGTH * p.reader.place < tape.len()
+        || text.out.len() - text.at < MOST_ENDING
+    {
+        return false;
     }
-    Stretch {
-        playing: p,
-        stop: stop,
-        done: false,
-    }
+    put_ending(p, text);
+    true
 }

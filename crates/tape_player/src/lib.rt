@@ -6,5 +6,5 @@ mod player;
 mod stretch_text;
 
 pub use ending::close;
-pub use player::{least, play_on};
-pub use stretch_text::{Told, put_stretch};
+pub use player::{Loop, Player, play_on};
+pub use stretch_text::put_stretch;

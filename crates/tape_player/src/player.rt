@@ -1,20 +1,52 @@
 // A stretch of a tape: played, and then its text put.
-ghost use Rattle.std.specs.Prelude.{◌≡◌, ◌≤◌, min, length};
+ghost use Rattle.std.specs.Prelude.{◌≤◌, length};
+ghost use Rattle.book.specs.Laws.{BookKept};
+ghost use Rattle.book.specs.CallsInRow.{calls_in_row, records_of, Plays as PlaysInRow};
 ghost use Rattle.tape_output.specs.Output.{tape_most};
 ghost use Rattle.tape_output.specs.Stretches.{stretch, left, Ready, Roomy, Plays};
 
+use book::{Book, Playback};
 use tape_output::{Playing, Stretch};
+use tape_text::Text;
 
-// The smaller of two numbers.
-pub fn least(a: usize, b: usize) -> usize
-    ensures { result ≡ min a b }
-{
-    if a < b { a } else { b }
+// Who plays the records of a stretch in a row. Each promises the same, so that it is no matter which one plays a tape.
+pub trait Player {
+    fn play(
+        calendar: &[u8],
+        b: Book,
+        tape: &[u8],
+        answers: &mut [u8],
+        counts: &mut [u16],
+        notices: &mut [u8],
+    ) -> Playback
+        requires book_kept { BookKept b }
+        requires answers_in_bounds { length answers.old ≤ length counts.old }
+        ensures { PlaysInRow (calls_in_row calendar.now (length notices.old) b
+            (records_of (length answers.old) tape.now)) result answers.old answers.new
+            counts.old counts.new notices.old notices.new };
 }
 
+// One loop over the records, which leaves the book in its place.
+pub struct Loop;
+
+impl Player for Loop {
+    fn play(
+        calendar: &[u8],
+        b: Book,
+        tape: &[u8],
+        answers: &mut [u8],
+        counts: &mut [u16],
+        notices: &mut [u8],
+    ) -> Playback {
+        book_player::play(calendar, b, tape, answers, counts, notices)
+    }
+}
+
+// (The buffers stay four parameters: a player is lent three of them, and a struct that lends them on is no plainer.)
+//
 // A stretch of a tape: its records are played in a row, which notes what came of each; then their text is put, and the end where no record
 // is left.
-pub fn play_on(
+pub fn play_on<P: Player>(
     calendar: &[u8],
     p: Playing,
     tape: &[u8],
@@ -27,23 +59,25 @@ pub fn play_on(
     ensures { Plays 0 (stretch calendar.now (length out.old) p (left p tape.now)) result
         out.old out.new }
 {
-    let reader = p.reader;
-    let b = p.book;
-    let from = least(records::RECORD_LENGTH * reader.place, tape.len());
-    let course = book_player::play(calendar, b, &tape[from..], answers, counts, notices);
-    let told = crate::stretch_text::put_stretch(
-        reader,
+    let from = (records::RECORD_LENGTH * p.reader.place).min(tape.len());
+    let course = P::play(calendar, p.book, &tape[from..], answers, counts, notices);
+    let mut text = Text::new(out);
+    let reader = crate::stretch_text::put_stretch(
+        p.reader,
         course.played,
         answers,
         counts,
         notices,
-        out,
+        &mut text,
     );
-    let counted = told.reader;
-    let after = course.book;
-    let q = Playing {
-        reader: counted,
-        book: after,
+    let playing = Playing {
+        reader,
+        book: course.book,
     };
-    crate::ending::close(q, tape, told.stop, out)
+    let done = crate::ending::close(&playing, tape, &mut text);
+    Stretch {
+        playing,
+        stop: text.at,
+        done,
+    }
 }

@@ -16,10 +16,10 @@ line_most_lem : (w : Waiting) → length (waiting_line w) ≤ waiting_line_most
 unfolding waiting_line
 line_most_lem w = any_lettered question_letter (w.review ∷ w.permit ∷ w.scheduled ∷ w.cancel ∷ [])
 
-pub line_fits : (w : Waiting) (out : List ℕ) → waiting_line_most ≤ length out → 0 + length (waiting_line w) ≤ length out
-line_fits w out room = omega (arith, line_most_lem w, room)
+pub line_fits : (w : Waiting) (at : ℕ) (out : List ℕ) → at + waiting_line_most ≤ length out → at + length (waiting_line w) ≤ length out
+line_fits w at out room = omega (arith, line_most_lem w, room)
 
 -- the line of what is shown of a book is that of its totals
-pub shown_put : (b c : Book) (shown : Waiting) {before after : List ℕ} {stop : ℕ} → b ≡ c → Shown b shown
-    → Puts 0 before after stop (waiting_line shown) → Puts 0 before after stop (waiting_line c.waiting)
+pub shown_put : (b c : Book) (shown : Waiting) {at stop : ℕ} {before after : List ℕ} → b ≡ c → Shown b shown
+    → Puts at before after stop (waiting_line shown) → Puts at before after stop (waiting_line c.waiting)
 shown_put b c shown same asked p = puts_as (ap waiting_line (asked ∙ ap (λ (x : Book). x.waiting) same)) p

@@ -3,13 +3,14 @@
 // standard error, as the tape program tells it.
 #![tactic(auto)]
 
-ghost use Rattle.std.specs.Prelude.{◌≤◌, length};
+ghost use Rattle.std.specs.Prelude.{◌≡◌, ◌+◌, ◌≤◌, length};
 ghost use Rattle.book.specs.Calls.{notice_bytes};
 ghost use Rattle.tape_text.specs.Numbers.{Puts};
 ghost use Rattle.waiting.specs.Output.{waiting_line, waiting_line_most, waiting_output};
 
 use book::Waiting;
 use std::io;
+use tape_text::Text;
 
 // The letter that begins the line, and the most bytes of it.
 const QUESTION: u8 = b'q';
@@ -17,78 +18,46 @@ const QUESTION: u8 = b'q';
 const LINE_BYTES: usize = 86;
 
 // The line of four totals.
-fn put_waiting(w: Waiting, out: &mut [u8]) -> usize
-    requires { waiting_line_most ≤ length out.old }
-    ensures { Puts 0 out.old out.new result (waiting_line w) }
+fn put_waiting(w: Waiting, text: &mut Text)
+    requires { text.old.at + waiting_line_most ≤ length text.old.out.now }
+    ensures same_buffer { text.new.out.ghost_name ≡ text.old.out.ghost_name }
+    ensures puts { Puts text.old.at text.old.out.now text.new.out.now text.new.at (waiting_line w) }
 {
-    let numbers = [
-        w.review as u64,
-        w.permit as u64,
-        w.scheduled as u64,
-        w.cancel as u64,
-    ];
-    tape_text::put_lettered(QUESTION, &numbers, 0, out)
+    text.lettered(
+        QUESTION,
+        &[
+            w.review as u64,
+            w.permit as u64,
+            w.scheduled as u64,
+            w.cancel as u64,
+        ],
+    );
 }
 
 // Plays a tape, asks the question, and puts the line.
-fn waiting_in(calendar: &[u8], tape: &[u8], notices: &mut [u8], out: &mut [u8]) -> usize
+fn waiting_in(calendar: &[u8], tape: &[u8], notices: &mut [u8], text: &mut Text)
     requires notice_bytes_in_bounds { notice_bytes ≤ length notices.old }
-    requires waiting_line_most_in_bounds { waiting_line_most ≤ length out.old }
-    ensures { Puts 0 out.old out.new result (waiting_output calendar.now tape.now) }
+    requires waiting_line_most_in_bounds { text.old.at + waiting_line_most ≤ length text.old.out.now }
+    ensures same_buffer { text.new.out.ghost_name ≡ text.old.out.ghost_name }
+    ensures puts { Puts text.old.at text.old.out.now text.new.out.now text.new.at
+        (waiting_output calendar.now tape.now) }
 {
     let b = tape_book::played(calendar, tape, notices);
-    let shown = book_calls::waiting_orders(b);
-    put_waiting(shown, out)
+    put_waiting(book_calls::waiting_orders(b), text);
 }
 
 // The line in buffers of its own, written to standard output.
 fn print_waiting(rt: &impl Print, calendar: &[u8], tape: &[u8]) -> io::Result<()> {
     let mut notices = [0u8; book::NOTICE_BYTES];
     let mut out = [0u8; LINE_BYTES];
-    let stop = waiting_in(calendar, tape, &mut notices, &mut out);
-    rt.write_all(&out[0..stop])
+    let mut text = Text::new(&mut out);
+    waiting_in(calendar, tape, &mut notices, &mut text);
+    let stop = text.at;
+    rt.write_all(&out[..stop])
 }
 
-// Says on standard error what went wrong and what to do.
-fn complain(rt: &HostRuntime, what: &[u8], error: io::Error, advice: &[u8]) {
-    tape_io::fail(rt, what, error);
-    tape_io::say(rt, advice);
-}
-
-// Reads the calendar and the tape, and prints the line.
 fn main(rt: HostRuntime) {
-    let mut calendar = [0u8; tape_io::CALENDAR_BYTES];
-    let days = tape_io::read_file(&rt, b"calendar.bin", &mut calendar);
-    if let Some(error) = days.failed {
-        complain(
-            &rt,
-            b"waiting: cannot read calendar.bin in the current folder",
-            error,
-            b"waiting: nothing was played; make it a readable file, or remove it to play with an empty calendar\n",
-        );
-        return;
-    }
-    let mut tape = [0u8; tape_io::TAPE_BYTES];
-    let read = tape_io::read_up_to(&mut rt.stdin(), &mut tape);
-    if let Some(error) = read.failed {
-        complain(
-            &rt,
-            b"waiting: cannot read the tape from standard input",
-            error,
-            b"waiting: nothing was played; give a readable file or pipe, as in: waiting < TAPE\n",
-        );
-        return;
-    }
-    let days_read = days.count;
-    let bytes_read = read.count;
-    if let Err(error) = print_waiting(&rt, &calendar[0..days_read], &tape[0..bytes_read]) {
-        complain(
-            &rt,
-            b"waiting: cannot write to standard output",
-            error,
-            b"waiting: the output is not whole; make room or give another place, and play the tape again\n",
-        );
-        return;
-    }
-    tape_io::advise(&rt, b"waiting", days_read, &tape[0..bytes_read]);
+    tape_io::print_of_tape(&rt, b"waiting", |calendar, tape| {
+        print_waiting(&rt, calendar, tape)
+    });
 }

@@ -4,8 +4,8 @@ use Prim.Native.Nat.{ℕ, ◌+◌, ◌*◌, ◌≤◌, ◌<◌}
 use mathlib.Core.Path.{◌≡◌, ap, ◌∙◌}
 use mathlib.Core.List.{List, [], ◌∷◌, ◌++◌}
 use native.Mathlib.Omega.{arith}
-use lib.ListN.{length, take, drop, get_or, set, length-append, length-set, length-take}
-use Rattle.lists.proofs.Find.{drop_part, part_none}
+use lib.ListN.{length, drop, get_or, set, length-append, length-set}
+use Rattle.lists.proofs.Find.{drop-first, drop-none}
 use Rattle.tape_text.specs.Numbers.{newline, decimal, lettered_most, Puts}
 use Rattle.tape_text.proofs.Digits.{decimal_within}
 use Rattle.tape_text.proofs.Lengths.{any_lettered}
@@ -29,65 +29,57 @@ unfolding sheet_text
 text_most answer rows h = omega (arith, length-append (decimal answer) (newline ∷ row_lines rows), decimal_within answer, lines_most rows, h)
 
 -- ---- the answer's line, and the rows' behind it
-module _ (answer : ℕ) (rows : List BlockRow) (count : ℕ) (before : List ℕ) (few : count ≤ most_rows) (room : sheet_text_most ≤ length before)
-  where
-    abbrev rest : List ℕ
-    rest = row_lines (take count rows)
+module _ (answer : ℕ) (rows : List BlockRow) (before : List ℕ) (few : length rows ≤ most_rows) (room : sheet_text_most ≤ length before) where
+  fits : 0 + length (decimal answer ++ (newline ∷ row_lines rows)) ≤ length before
+  unfolding sheet_text
+  fits = omega (arith, text_most answer rows few, room)
 
-    fits : 0 + length (decimal answer ++ (newline ∷ rest)) ≤ length before
+  pub number_fits : 0 + length (decimal answer) ≤ length before
+  number_fits = room_first 0 before (decimal answer) (newline ∷ row_lines rows) fits
+
+  module _ {after : List ℕ} {stop : ℕ} (p : Puts 0 before after stop (decimal answer)) where
+    end_fits : stop + length (newline ∷ row_lines rows) ≤ length after
+    end_fits = room_then p (newline ∷ row_lines rows) fits
+
+    pub end_within : stop + 1 ≤ length after
+    end_within = omega (arith, end_fits)
+
+    pub end_length : length (set after stop newline) ≡ length before
+    end_length = length-set after stop newline ∙ puts_length p number_fits
+
+    pub rows_fit : stop + 1 + length (row_lines rows) ≤ length (set after stop newline)
+    rows_fit = room_after_one stop after newline (row_lines rows) end_fits
+
+    pub sheet_put : {out : List ℕ} {end : ℕ} → Puts (stop + 1) (set after stop newline) out end (row_lines rows)
+        → Puts 0 before out end (sheet_text answer rows)
     unfolding sheet_text
-    fits = omega (arith, text_most answer (take count rows) (omega (arith, length-take count rows, few)), room)
-
-    pub number_fits : 0 + length (decimal answer) ≤ length before
-    number_fits = room_first 0 before (decimal answer) (newline ∷ rest) fits
-
-    module _ {after : List ℕ} {stop : ℕ} (p : Puts 0 before after stop (decimal answer)) where
-      end_fits : stop + length (newline ∷ rest) ≤ length after
-      end_fits = room_then p (newline ∷ rest) fits
-
-      pub end_within : stop + 1 ≤ length after
-      end_within = omega (arith, end_fits)
-
-      pub end_length : length (set after stop newline) ≡ length before
-      end_length = length-set after stop newline ∙ puts_length p number_fits
-
-      pub rows_fit : stop + 1 + length rest ≤ length (set after stop newline)
-      rows_fit = room_after_one stop after newline rest end_fits
-
-      pub sheet_put : {out : List ℕ} {end : ℕ} → Puts (stop + 1) (set after stop newline) out end rest
-          → Puts 0 before out end (sheet_text answer (take count rows))
-      unfolding sheet_text
-      sheet_put q = puts_then p (puts_after_one stop after newline rest end_fits q) fits
+    sheet_put q = puts_then p (puts_after_one stop after newline (row_lines rows) end_fits q) fits
 
 -- ---- the loop over the rows
-pub record Listed (rows : List BlockRow) (count start : ℕ) (before after : List ℕ) (at i : ℕ) : Type 0 where
-  pub within : count ≤ length rows
-  pub room : start + length (row_lines (take count rows)) ≤ length before
-  pub put : Putting (row_lines (take count rows)) (row_lines (drop i (take count rows))) start before after at
+pub record Listed (rows : List BlockRow) (start : ℕ) (before after : List ℕ) (at i : ℕ) : Type 0 where
+  pub room : start + length (row_lines rows) ≤ length before
+  pub put : Putting (row_lines rows) (row_lines (drop i rows)) start before after at
 
-pub listed_none : (rows : List BlockRow) (count start : ℕ) (before : List ℕ) → count ≤ length rows
-    → start + length (row_lines (take count rows)) ≤ length before → Listed rows count start before before start 0
-listed_none rows count start before h room =
-    record { within = h; room = room; put = putting_none (row_lines (take count rows)) start before }
+pub listed_none : (rows : List BlockRow) (start : ℕ) (before : List ℕ) → start + length (row_lines rows) ≤ length before
+    → Listed rows start before before start 0
+listed_none rows start before h = record { room = h; put = putting_none (row_lines rows) start before }
 
-module _ {rows : List BlockRow} {count start : ℕ} {before after : List ℕ} {at i : ℕ} (l : Listed rows count start before after at i) where
+module _ {rows : List BlockRow} {start : ℕ} {before after : List ℕ} {at i : ℕ} (l : Listed rows start before after at i) where
   pub listed_length : length after ≡ length before
   listed_length = putting_length l.put l.room
 
-  module _ (past : BlockRow) (h : i < count) where
-    next : row_lines (drop i (take count rows)) ≡ row_line (get_or rows i past) ++ row_lines (drop (i + 1) (take count rows))
-    next = ap row_lines (drop_part past rows count i l.within h)
+  module _ (past : BlockRow) (h : i < length rows) where
+    next : row_lines (drop i rows) ≡ row_line (get_or rows i past) ++ row_lines (drop (i + 1) rows)
+    next = ap row_lines (drop-first past rows i h)
 
     pub listed_room : at + length (row_line (get_or rows i past)) ≤ length after
-    listed_room = putting_room l.put l.room (row_line (get_or rows i past)) (row_lines (drop (i + 1) (take count rows))) next
+    listed_room = putting_room l.put l.room (row_line (get_or rows i past)) (row_lines (drop (i + 1) rows)) next
 
-    pub listed_more : {more : List ℕ} {to : ℕ} → Puts at after more to (row_line (get_or rows i past))
-        → Listed rows count start before more to (i + 1)
+    pub listed_more : {more : List ℕ} {to : ℕ} → Puts at after more to (row_line (get_or rows i past)) → Listed rows start before more to (i + 1)
     listed_more p = record {
-      within = l.within;
       room = l.room;
-      put = putting_more l.put l.room (row_line (get_or rows i past)) (row_lines (drop (i + 1) (take count rows))) next p;
+      put = putting_more l.put l.room (row_line (get_or rows i past)) (row_lines (drop (i + 1) rows)) next p;
     }
 
-  pub listed_all : count ≤ i → Puts start before after at (row_lines (take count rows))
-  listed_all h = putting_all l.put l.room (ap row_lines (part_none rows count i h))
+  pub listed_all : length rows ≤ i → Puts start before after at (row_lines rows)
+  listed_all h = putting_all l.put l.room (ap row_lines (drop-none rows i h))

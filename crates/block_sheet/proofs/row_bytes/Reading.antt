@@ -6,28 +6,27 @@ use native.Mathlib.Omega.{arith}
 use lib.ListN.{length, take, drop, get_or, set, replicate, length-append, length-replicate}
 use lib.Seq.{drop-drop, drop_at}
 use Rattle.lists.proofs.Over.{over, over_start, over_end, over_set}
-use Rattle.records.specs.Layout.{number}
+use Rattle.records.specs.Layout.{number, field_of}
+use Rattle.records.proofs.Decode.{field_of_first}
 use Rattle.sheet_rules.specs.declared.BlockRow.{BlockRow}
 use Rattle.sheet_rules.specs.Theorems.{spare}
 use Rattle.block_sheet.specs.RowBytes.{row_length, most_rows, row_of, rows_of, padded}
 
--- ---- a row, field by field
-pub row_is : (bytes : List ℕ) (at block first last files dark : ℕ)
-    → block ≡ number (take 4 (drop at bytes)) → first ≡ number (take 8 (drop (at + 4) bytes))
-    → last ≡ number (take 8 (drop (at + 12) bytes))
-    → files ≡ number (take 4 (drop (at + 20) bytes)) → dark ≡ number (take 4 (drop (at + 24) bytes))
-    → ◌≡◌ {A = BlockRow} (record { block = block; first = first; last = last; files = files; dark = dark }) (row_of (drop at bytes))
-unfolding row_of
-row_is bytes at block first last files dark e f g h k =
-    let part : (width from : ℕ) → number (take width (drop (at + from) bytes)) ≡ number (take width (drop from (drop at bytes))) =
-    λ width from. ap (λ (l : List ℕ). number (take width l)) (sym (drop-drop from at bytes)) in
-    let f' = f ∙ part 8 4 in
-    let g' = g ∙ part 8 12 in
-    let h' = h ∙ part 4 20 in
-    let k' = k ∙ part 4 24 in
-    λ i. record { block = e i; first = f' i; last = g' i; files = h' i; dark = k' i }
-
 -- ---- the rows
+-- a row is read from the 28 bytes that it has
+pub row_cut : (bytes : List ℕ) → row_of (take row_length bytes) ≡ row_of bytes
+unfolding field_of row_of
+row_cut bytes =
+    let part : (width from : ℕ) → from + width ≤ row_length
+    → number (take width (drop from (take row_length bytes))) ≡ number (take width (drop from bytes)) =
+    λ width from h. field_of_first (record { start = from; width = width }) row_length bytes h in
+    let block = part 4 0 (omega arith) in
+    let first = part 8 4 (omega arith) in
+    let last = part 8 12 (omega arith) in
+    let files = part 4 20 (omega arith) in
+    let dark = part 4 24 (omega arith) in
+    λ i. record { block = block i; first = first i; last = last i; files = files i; dark = dark i }
+
 pub rows-length : (n : ℕ) (bytes : List ℕ) → length (rows_of n bytes) ≡ n
 rows-length zero bytes = refl
 rows-length (suc n) bytes = ap suc (rows-length n (drop row_length bytes))
@@ -47,46 +46,46 @@ drop-spare (suc n) zero = let e : 0 - suc n ≡ 0 = omega arith in ap (λ (k : �
 drop-spare (suc n) (suc m) = let e : suc m - suc n ≡ m - n = omega arith in drop-spare n m ∙ ap (λ (k : ℕ). replicate k spare) (sym e)
 
 -- ---- the loop: the first rows are read
-pub record Reading (bytes : List ℕ) (n : ℕ) (rows : List BlockRow) (i : ℕ) : Type 0 where
-  pub within : i ≤ n
-  pub whole : n ≡ length bytes / row_length
-  pub few : n ≤ most_rows
-  pub sofar : rows ≡ over i (padded (rows_of n bytes)) (replicate most_rows spare)
+abbrev all_rows : List ℕ → List BlockRow
+all_rows bytes = padded (rows_of (length bytes / row_length) bytes)
 
-pub reading_none : (bytes : List ℕ) (n : ℕ) (rows : List BlockRow) → n ≡ length bytes / row_length → length bytes ≤ row_length * most_rows
-    → rows ≡ replicate most_rows spare → Reading bytes n rows 0
-reading_none bytes n rows e h f =
+pub record Reading (bytes : List ℕ) (rows : List BlockRow) (i : ℕ) : Type 0 where
+  pub within : i ≤ length bytes / row_length
+  pub few : length bytes / row_length ≤ most_rows
+  pub sofar : rows ≡ over i (all_rows bytes) (replicate most_rows spare)
+
+pub reading_none : (bytes : List ℕ) → length bytes ≤ row_length * most_rows → Reading bytes (replicate most_rows spare) 0
+reading_none bytes h =
     record {
       within = omega arith;
-      whole = e;
-      few = omega (arith, e, h);
-      sofar = f ∙ sym (over_start spare (padded (rows_of n bytes)) (replicate most_rows spare) 0 refl);
+      few = omega (arith, h);
+      sofar = sym (over_start spare (all_rows bytes) (replicate most_rows spare) 0 refl);
     }
 
-module _ {bytes : List ℕ} {n : ℕ} {rows : List BlockRow} {i : ℕ} (r : Reading bytes n rows i) where
-  pub reading_more : (x : BlockRow) → i < n → x ≡ row_of (drop (row_length * i) bytes) → Reading bytes n (set rows i x) (i + 1)
+module _ {bytes : List ℕ} {rows : List BlockRow} {i : ℕ} (r : Reading bytes rows i) where
+  pub reading_more : (x : BlockRow) → i < length bytes / row_length → x ≡ row_of (drop (row_length * i) bytes) → Reading bytes (set rows i x) (i + 1)
   reading_more x h e =
-      let long : length (padded (rows_of n bytes)) ≡ most_rows =
+      let n = length bytes / row_length in
+      let long : length (all_rows bytes) ≡ most_rows =
       length-append (rows_of n bytes) (replicate (most_rows - length (rows_of n bytes)) spare)
       ∙ (rw (length-replicate {A = BlockRow} (most_rows - length (rows_of n bytes)) spare, rows-length n bytes) (omega (arith, r.few))) in
       record {
         within = omega (arith, h);
-        whole = r.whole;
         few = r.few;
         sofar =
             ap₂ (λ (l : List BlockRow) (y : BlockRow). set l i y) r.sofar
             (e ∙ sym (rows_at n i bytes (replicate (most_rows - length (rows_of n bytes)) spare) h))
-            ∙ over_set spare (padded (rows_of n bytes)) (replicate most_rows spare) i
+            ∙ over_set spare (all_rows bytes) (replicate most_rows spare) i
             (omega (arith, h, r.few, length-replicate {A = BlockRow} most_rows spare)) (omega (arith, h, r.few, long));
       }
 
-  pub reading_all : n ≤ i → rows ≡ padded (rows_of (length bytes / row_length) bytes)
+  pub reading_all : length bytes / row_length ≤ i → rows ≡ all_rows bytes
   reading_all h =
+      let n = length bytes / row_length in
       let e : i ≡ n = omega (arith, h, r.within) in
       r.sofar
-      ∙ ap (λ (m : ℕ). over m (padded (rows_of n bytes)) (replicate most_rows spare)) e
-      ∙ over_end spare (padded (rows_of n bytes)) (replicate most_rows spare) n
+      ∙ ap (λ (m : ℕ). over m (all_rows bytes) (replicate most_rows spare)) e
+      ∙ over_end spare (all_rows bytes) (replicate most_rows spare) n
       (drop_at (rows_of n bytes) (replicate (most_rows - length (rows_of n bytes)) spare) n (rows-length n bytes)
       ∙ ap (λ (m : ℕ). replicate (most_rows - m) spare) (rows-length n bytes)
       ∙ sym (drop-spare n most_rows))
-      ∙ ap (λ (m : ℕ). padded (rows_of m bytes)) r.whole

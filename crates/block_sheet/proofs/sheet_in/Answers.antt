@@ -11,6 +11,6 @@ use Rattle.block_sheet.proofs.sheet_in.Goals as goal
 pub returns : goal.returns
 returns c =
     let blocks = c.args.blocks.now in
-    printed _ _ (rows_of (length blocks / row_length) blocks) _ _ _ _ _ c.played-b.ensures c.rows_of-given.ensures
+    printed _ _ (rows_of (length blocks / row_length) blocks) _ _ _ _ _ c.played-b.ensures c.rows_of.ensures
     c.filled_sheet-after.ensures c.number_of-number.ensures (sym (rows-length (length blocks / row_length) blocks))
     c.put_sheet.ensures

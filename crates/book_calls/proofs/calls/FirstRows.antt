@@ -8,31 +8,32 @@ use borrow.Author.Tests.{lt-ltb, le-ltb, ne_eqb}
 use Rattle.records.specs.Layout.{record_length}
 use Rattle.records.proofs.Emits.{emits_as}
 use Rattle.records.proofs.Readings.{reading-length}
-use Rattle.premise.specs.declared.Answer.{Answer}
-use Rattle.premise.specs.declared.Answer.TheVariants.{ShortBuffer, NotWellKept, MalformedRecord}
+use Rattle.std.specs.Prelude.{Err}
+use Rattle.premise.specs.Refusals.{Answer}
+use Rattle.premise.specs.declared.Refusal.TheVariants.{ShortBuffer, NotWellKept, MalformedRecord}
 use Rattle.premise.specs.Refusals.{number}
 use Rattle.book.specs.declared.Book.{Book}
 use Rattle.book.specs.declared.Reply.{Reply}
 use Rattle.book.specs.Book.{book_kept}
-use Rattle.book.specs.Calls.{notice_bytes, call_rows, Result, refusal, call, call_rows_by, call_by}
+use Rattle.book.specs.Calls.{notice_bytes, Result, refusal, call, call_rows_by, call_by}
 use Rattle.book.specs.Promise.{Promised}
 use Rattle.book.proofs.ByReading.{call_malformed}
 use Rattle.book.proofs.Rows.{refusing}
 
 module _ (calendar : List ℕ) (b : Book) (bytes lent : List ℕ) where
   -- row 1
-  pub call_short : length lent < notice_bytes → call calendar b bytes lent ≡ refusal ShortBuffer b
+  pub call_short : length lent < notice_bytes → call calendar b bytes lent ≡ refusal (Err ShortBuffer) b
   unfolding call_by call_rows_by
-  call_short h = rw (lt-ltb (length lent) notice_bytes h, ne_eqb (number ShortBuffer) 0 (refusing ShortBuffer refl))
+  call_short h = rw (lt-ltb (length lent) notice_bytes h, ne_eqb (number (Err ShortBuffer)) 0 (refusing ShortBuffer))
 
   -- row 2
-  pub call_unkept : notice_bytes ≤ length lent → book_kept b ≡ false → call calendar b bytes lent ≡ refusal NotWellKept b
+  pub call_unkept : notice_bytes ≤ length lent → book_kept b ≡ false → call calendar b bytes lent ≡ refusal (Err NotWellKept) b
   unfolding call_by call_rows_by
-  call_unkept h k = rw (le-ltb (length lent) notice_bytes h, k, ne_eqb (number NotWellKept) 0 (refusing NotWellKept refl))
+  call_unkept h k = rw (le-ltb (length lent) notice_bytes h, k, ne_eqb (number (Err NotWellKept)) 0 (refusing NotWellKept))
 
   -- row 3, by the length
   pub call_other_length : notice_bytes ≤ length lent → book_kept b ≡ true → (length bytes ≡ record_length → ⊥)
-      → call calendar b bytes lent ≡ refusal MalformedRecord b
+      → call calendar b bytes lent ≡ refusal (Err MalformedRecord) b
   call_other_length h k other = call_malformed calendar b bytes lent k h (reading-length bytes other)
 
   -- a refusal as the code gives it

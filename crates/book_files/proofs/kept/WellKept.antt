@@ -3,24 +3,24 @@
 use Prim.Native.Nat.{ℕ, ◌+◌, ◌^◌, ◌≤◌, ◌<◌}
 use mathlib.Core.Path.{◌≡◌, refl, sym, ap, subst⁻¹, ◌∙◌}
 use mathlib.Core.List.{List, [], ◌∷◌, ◌++◌}
-use mathlib.Core.Bool.{Bool, true, false, not, cond, ◌&&◌, and-false}
+use mathlib.Core.Bool.{Bool, true, false, cond, ◌&&◌, and-false}
 use native.Mathlib.Numerals.{add-one}
 use native.Mathlib.Omega.{arith}
 use lib.Dec.{eqb, leb}
 use lib.ListN.{length, take, drop, get_or, length-take}
 use lib.Seq.{take-suc, take_all, get_or-take}
-use borrow.Author.Tests.{eq-eqb, le-leb, lt-leb, lt-ltb, le-ltb, not-true, not-false}
+use borrow.Author.Tests.{eq-eqb, le-leb, lt-leb, lt-ltb, le-ltb}
+use Rattle.std.specs.Prelude.{Option, Some, None}
 use Rattle.lists.specs.Search.{all_of, Each}
 use Rattle.lists.proofs.SearchLaws.{each_append}
 use Rattle.lists.proofs.Find.{drop_part, part_none, drop-first, drop-none, all_miss, all_next, all_end}
 use Rattle.lists.proofs.TestLaws.{and_left, and_right}
 use Rattle.days.specs.Days.{last_day, is_day}
 use Rattle.premise.specs.declared.File.{File}
-use Rattle.premise.specs.Orders.{blank_file}
+use Rattle.premise.specs.Orders.{blank_file, held}
 use Rattle.premise.specs.WellKept.{file_kept, file_blank, FileKept}
 use Rattle.premise.proofs.KeptFiles.{kept_means}
-use Rattle.premise_kept.specs.declared.file.FileTest.{FileTest}
-use Rattle.premise_kept.specs.Test.{packed, passed, refused, file_test}
+use Rattle.premise_kept.specs.Test.{packed, packed_counts, file_test}
 use Rattle.book.specs.declared.Book.{Book}
 use Rattle.book.specs.declared.Waiting.{Waiting}
 use Rattle.book.specs.Totals.{waiting_in, same_totals, moved}
@@ -106,20 +106,27 @@ module _ (b : Book) where
       )
 
 -- ---- the test of a file: whether it is well kept, and its orders added to the totals
-module _ (f : File) {t : FileTest} (e : t ≡ file_test f) where
-  pub test_says : t.kept ≡ file_kept f
-  unfolding file_test passed refused
-  test_says = ap (λ (x : FileTest). x.kept) e ∙ go (file_kept f)
+module _ (f : File) {t : Option ℕ} (e : t ≡ file_test f) where
+  pub test_fails : t ≡ None → file_kept f ≡ false
+  unfolding file_test
+  test_fails q = go (file_kept f) (sym q ∙ e)
     where
-      go : (b : Bool) → (cond b (passed f) refused).kept ≡ b
-      go true = refl
-      go false = refl
+      go : (b : Bool) → None ≡ cond b (Some (packed_counts (held f))) None → b ≡ false
+      go true p = cc
+      go false p = refl
 
-  test_counts : (w : Waiting) → file_kept f ≡ true → packed_totals w + t.waiting ≡ packed_totals (moved w blank_file f)
-  unfolding file_test passed moved
-  test_counts w k =
-      let p : t.waiting ≡ (passed f).waiting = ap (λ (x : FileTest). x.waiting) (e ∙ ap (λ (b : Bool). cond b (passed f) refused) k) in
-      omega (arith, p)
+  module _ {counts : ℕ} (q : t ≡ Some counts) where
+    test_says : (file_kept f ≡ true) × (counts ≡ packed_counts (held f))
+    unfolding file_test
+    test_says = go (file_kept f) (sym q ∙ e)
+      where
+        go : (b : Bool) → Some counts ≡ cond b (Some (packed_counts (held f))) None → (b ≡ true) × (counts ≡ packed_counts (held f))
+        go true p = (refl, cc)
+        go false p = (cc, cc)
+
+    test_counts : (w : Waiting) → packed_totals w + counts ≡ packed_totals (moved w blank_file f)
+    unfolding moved
+    test_counts w = omega (arith, test_says.1)
 
 -- ---- the loop over the files held: the test of those left gives what the test of all of them gives, and of those passed, which are well
 -- kept, the waiting orders are added up
@@ -171,15 +178,14 @@ module _ {b : Book} {n waiting last i : ℕ} (v : HeldSofar b n waiting last i) 
         ap (λ (m : ℕ). take m (files_of b)) (add-one i) ∙ take-suc (files_of b) i d inside
         ∙ ap (λ (f : File). take i (files_of b) ++ (f ∷ [])) (get_or-take b.count b.files i d (omega (arith, h, v.same)))
 
-    module _ {t : FileTest} (e : t ≡ file_test (get_or b.files i d)) where
-      pub file_not_kept : not t.kept ≡ true → false ≡ book_kept b
-      file_not_kept q =
-          sym (held_fails b (sym v.kept ∙ not_kept last turn (sym (test_says (get_or b.files i d) e) ∙ not-true t.kept q)))
+    module _ {t : Option ℕ} (e : t ≡ file_test (get_or b.files i d)) where
+      pub file_not_kept : t ≡ None → false ≡ book_kept b
+      file_not_kept q = sym (held_fails b (sym v.kept ∙ not_kept last turn (test_fails (get_or b.files i d) e q)))
 
-      pub file_passes : last < (get_or b.files i d).premise → not t.kept ≡ false
-          → HeldSofar b n (waiting + t.waiting) (get_or b.files i d).premise (i + 1)
-      file_passes r q =
-          let k = sym (test_says (get_or b.files i d) e) ∙ not-false t.kept q in
+      pub file_passes : last < (get_or b.files i d).premise → {counts : ℕ} → t ≡ Some counts
+          → HeldSofar b n (waiting + counts) (get_or b.files i d).premise (i + 1)
+      file_passes r {counts} q =
+          let k = (test_says (get_or b.files i d) e q).0 in
           record {
             within = omega arith;
             same = v.same;
@@ -190,8 +196,8 @@ module _ {b : Book} {n waiting last i : ℕ} (v : HeldSofar b n waiting last i) 
             passed = subst⁻¹ (Each FileKept) more
                 (each_append FileKept (take i (files_of b)) (get_or b.files i d ∷ []) v.passed
                 ((kept_means (get_or b.files i d)).0 k, tt));
-            sum = ap (λ (m : ℕ). m + t.waiting) v.sum
-                ∙ test_counts (get_or b.files i d) e (waiting_in (take i (files_of b))) k
+            sum = ap (λ (m : ℕ). m + counts) v.sum
+                ∙ test_counts (get_or b.files i d) e q (waiting_in (take i (files_of b)))
                 ∙ ap packed_totals (moved_next (take i (files_of b)) (get_or b.files i d) ∙ ap waiting_in (sym more));
           }
 

@@ -1,7 +1,7 @@
 -- The four totals on the walk over the places of two files: what has been moved so far, and at the end. Assumes nothing.
 use Prim.Native.Nat.{ℕ, zero, suc, ◌+◌, ◌-◌, ◌≤◌, ◌<◌}
-use mathlib.Core.Path.{◌≡◌, refl, sym, ap, subst⁻¹, ◌∙◌}
-use mathlib.Core.List.{List, [], ◌∷◌, ◌++◌}
+use mathlib.Core.Path.{◌≡◌, refl, sym, ap, subst⁻¹, ◌∙◌, ap₂}
+use mathlib.Core.List.{[], ◌∷◌}
 use native.Mathlib.Numerals.{add-one}
 use native.Mathlib.Omega.{arith}
 use lib.ListN.{length, take, drop, get_or, replicate, length-append, length-replicate, length-take, take-append-drop}
@@ -183,6 +183,34 @@ module _ {w : Waiting} {before after : File} {totals : Waiting} {place : ℕ} (t
           dated = stays scheduled (omega arith) w.scheduled totals.scheduled t.counts.dated t.dated e;
           cancel = stays cancel_pending (omega arith) w.cancel totals.cancel t.counts.cancel t.cancel e;
         }
+
+  -- ---- a turn of the walk, which reads the orders at the place
+  module _ (inside : place < length before.orders) (d : Order) {l c : Order} (left_is : l ≡ get_or before.orders place d)
+      (came_is : c ≡ get_or after.orders place d)
+    where
+      below : place < most_orders
+      below = omega (arith, inside, eight before t.leaves)
+
+      one : l.status ≡ (get_or before.orders place d).status
+      one = ap (λ (o : Order). o.status) left_is
+
+      other : c.status ≡ (get_or after.orders place d).status
+      other = ap (λ (o : Order). o.status) came_is
+
+      pub turn_asks : (l.status ≡ c.status → ⊥) → Turns l.status c.status totals
+      turn_asks differ =
+          subst⁻¹ (λ (s : ℕ). Turns s c.status totals) one
+          (subst⁻¹ (λ (s : ℕ). Turns (get_or before.orders place d).status s totals) other
+          (turning_asks d below (λ q. differ (one ∙ q ∙ sym other))))
+
+      module _ {n : ℕ} (next : n ≡ place + 1) where
+        pub turn_more : {after_it : Waiting} → after_it ≡ turned l.status c.status totals → Turning w before after after_it n
+        turn_more {after_it} e =
+            subst⁻¹ (Turning w before after after_it) next
+            (turning_more d below (e ∙ ap₂ (λ (x y : ℕ). turned x y totals) one other))
+
+        pub turn_still : l.status ≡ c.status → Turning w before after totals n
+        turn_still e = subst⁻¹ (Turning w before after totals) next (turning_still d below (sym one ∙ e ∙ other))
 
   -- all places are passed
   module _ (h : most_orders ≤ place) where

@@ -1,10 +1,7 @@
--- The number read so far is no more than the most room. The measure is the digits left.
-use Rattle.std.proofs.Common.{length, ◌-◌, ◌≤◌}
+-- The number read so far is no more than the most room.
+use Rattle.std.proofs.Common.{◌≤◌}
 use Rattle.convert.specs.Sizes.{most_out}
 use Rattle.convert.proofs.room_in.Given as goal
 
-abbrev pub invariant-loop-i : goal.invariant-loop-i
-invariant-loop-i l = l.n ≤ most_out
-
-abbrev pub decreases-loop-i : goal.decreases-loop-i
-decreases-loop-i l = length l.word - l.i
+abbrev pub invariant-loop-digit : goal.invariant-loop-digit
+invariant-loop-digit l = l.room ≤ most_out

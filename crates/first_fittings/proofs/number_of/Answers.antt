@@ -1,20 +1,21 @@
--- `first_fittings::number_of` meets its contract: each answer's number is the definition's.
-use mathlib.Core.Path.{sym, ap}
+-- The number of a refusal is that of its variant, and 0 stands for a conversion.
+use Rattle.std.proofs.Common.{◌≡◌, refl, ap, sym, ◌∙◌, ◌+◌, Err}
+use denote.Enum.Declared.{tag_of}
+use Rattle.first_fittings_rules.specs.contracts.Refusal as refusals
+use Rattle.first_fittings_rules.specs.declared.Refusal.{Refusal}
+use Rattle.first_fittings_rules.specs.declared.Refusal.TheVariants.{NotWhole, ShortBuffer, LastBytesUsed}
 use Rattle.first_fittings_rules.specs.Answers.{number}
 use Rattle.first_fittings.proofs.number_of.Goals as goal
 
-pub returns-in-Converted : goal.returns-in-Converted
+pub returns-in-Ok : goal.returns-in-Ok
 unfolding number
-returns-in-Converted c = sym (ap number c.in-Converted.is)
+returns-in-Ok c = sym (ap number c.in-Ok.is)
 
-pub returns-in-NotWhole : goal.returns-in-NotWhole
+numbered : (refusal : Refusal) → tag_of refusals.the_type refusal + 23 ≡ number (Err refusal)
 unfolding number
-returns-in-NotWhole c = sym (ap number c.in-NotWhole.is)
+numbered NotWhole = refl
+numbered ShortBuffer = refl
+numbered LastBytesUsed = refl
 
-pub returns-in-ShortBuffer : goal.returns-in-ShortBuffer
-unfolding number
-returns-in-ShortBuffer c = sym (ap number c.in-ShortBuffer.is)
-
-pub returns-in-LastBytesUsed : goal.returns-in-LastBytesUsed
-unfolding number
-returns-in-LastBytesUsed c = sym (ap number c.in-LastBytesUsed.is)
+pub returns-in-Err : goal.returns-in-Err
+returns-in-Err c = numbered c.in-Err.refusal ∙ sym (ap number c.in-Err.is)

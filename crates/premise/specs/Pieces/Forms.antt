@@ -2,7 +2,7 @@
 -- names of document 01's numbers, and not by the rules' own functions, which could be wrong on both sides.
 use Rattle.std.specs.Prelude.{ℕ, zero, suc, ◌+◌, ◌-◌, List, [], ◌∷◌, ◌++◌, map, Bool, true, false, not, ◌&&◌, eqb, length, replicate}
 use Prim.Native.String.{String}
-use Rattle.std.proofs.Math.Option.{Option, none, some}
+use Rattle.std.specs.Prelude.{Option, Some, None}
 use Rattle.lists.specs.Search.{any_of, all_of}
 use Rattle.days.specs.Days.{kind_of_day, is_business_day, switch_date}
 use Rattle.days.specs.Window.{in_window}
@@ -170,23 +170,23 @@ entered_file f = with_supply f f.retailer f.since 1
 
 -- T and such a file; T and no file
 abbrev pub state : ℕ → ℕ → ℕ → List Order → State
-state today retailer since os = record { today = today; file = some (file retailer since os) }
+state today retailer since os = record { today = today; file = Some (file retailer since os) }
 
 -- the same with an agreement with a retailer
 abbrev pub state_with : ℕ → ℕ → ℕ → ℕ → List Order → State
-state_with agreement today retailer since os = record { today = today; file = some (with_agreement (file retailer since os) agreement) }
+state_with agreement today retailer since os = record { today = today; file = Some (with_agreement (file retailer since os) agreement) }
 
 -- an agreement with a retailer or 0, and R by a move in that was read on S
 abbrev pub state_entered : ℕ → ℕ → ℕ → ℕ → List Order → State
 state_entered agreement today retailer since os =
-    record { today = today; file = some (entered_file (with_agreement (file retailer since os) agreement)) }
+    record { today = today; file = Some (entered_file (with_agreement (file retailer since os) agreement)) }
 
 -- the file with a window
 abbrev pub state_wide : ℕ → ℕ → ℕ → ℕ → List Order → State
-state_wide window today retailer since os = record { today = today; file = some (with_window window (file retailer since os)) }
+state_wide window today retailer since os = record { today = today; file = Some (with_window window (file retailer since os)) }
 
 abbrev pub nothing : ℕ → State
-nothing today = record { today = today; file = none }
+nothing today = record { today = today; file = None }
 
 -- ---- a notice in every field: code, K, day, reference and addressee; its P is 7 throughout
 abbrev pub sent : ℕ → ℕ → ℕ → ℕ → ℕ → Notice
@@ -268,10 +268,10 @@ same_orders (o ∷ os) [] = false
 same_orders (o ∷ os) (p ∷ ps) = same_order o p && same_orders os ps
 
 abbrev same_file : Option File → Option File → Bool
-same_file none none = true
-same_file none (some g) = false
-same_file (some f) none = false
-same_file (some f) (some g) =
+same_file None None = true
+same_file None (Some g) = false
+same_file (Some f) None = false
+same_file (Some f) (Some g) =
     eqb f.premise g.premise
     && eqb f.retailer g.retailer
     && eqb f.since g.since

@@ -8,10 +8,11 @@ use Rattle.records.specs.Records.{self_selected_switch, mass_transition_drop}
 use Rattle.records.specs.Records.{reply_accept, reply_reject}
 use Rattle.premise.specs.declared.Order.{Order}
 use Rattle.premise.specs.declared.File.{File}
-use Rattle.premise.specs.declared.Answer.TheVariants.{Accepted, ShortBuffer, NotWellKept, MalformedRecord, NoSuchPremise}
-use Rattle.premise.specs.declared.Answer.TheVariants.{PremiseHeld, BookFull, OrderOpen, ReferenceHeld, DayOutOfRange, NoSwitchDate}
-use Rattle.premise.specs.declared.Answer.TheVariants.{NotFirstIn, RetailerShareFull, StackFull, NoSuchOrder, StatusNotTaken}
-use Rattle.premise.specs.declared.Answer.TheVariants.{CounterNotAbove, OrderInWindow, OtherAgreement, NotNextDay}
+use Rattle.std.specs.Prelude.{Ok, Err}
+use Rattle.premise.specs.declared.Refusal.TheVariants.{ShortBuffer, NotWellKept, MalformedRecord, NoSuchPremise, OtherAgreement, PremiseHeld}
+use Rattle.premise.specs.declared.Refusal.TheVariants.{BookFull, OrderOpen, ReferenceHeld, DayOutOfRange, NoSwitchDate, NotFirstIn}
+use Rattle.premise.specs.declared.Refusal.TheVariants.{RetailerShareFull, StackFull, NoSuchOrder, StatusNotTaken, CounterNotAbove, OrderInWindow}
+use Rattle.premise.specs.declared.Refusal.TheVariants.{NotNextDay}
 use Rattle.premise.specs.Orders.{in_review, permit_pending, scheduled, cancel_pending, complete, cancelled, unexecutable, no_retailer}
 use Rattle.premise.specs.Orders.{blank_file, with_supply, with_agreement}
 use Rattle.premise.specs.Passes.{code_order, code_move_out, code_scheduled, code_losing, code_cancel, code_permit, code_unexecutable}
@@ -184,10 +185,10 @@ numbers =
     ∷ no_day ∷ [])
     (1 ∷ 2 ∷ 3 ∷ 4 ∷ 5 ∷ 1 ∷ 2 ∷ 0 ∷ 0 ∷ 4096 ∷ []))
     ∷ piece "answers 0 to 18 and 26"
-    (numbered (number Accepted ∷ number ShortBuffer ∷ number NotWellKept ∷ number MalformedRecord ∷ number NoSuchPremise
-    ∷ number PremiseHeld ∷ number BookFull ∷ number OrderOpen ∷ number ReferenceHeld ∷ number DayOutOfRange ∷ number NoSwitchDate
-    ∷ number NotFirstIn ∷ number StackFull ∷ number NoSuchOrder ∷ number StatusNotTaken ∷ number NotNextDay
-    ∷ number CounterNotAbove ∷ number OrderInWindow ∷ number OtherAgreement ∷ number RetailerShareFull ∷ [])
+    (numbered (number (Ok tt) ∷ number (Err ShortBuffer) ∷ number (Err NotWellKept) ∷ number (Err MalformedRecord) ∷ number (Err NoSuchPremise)
+    ∷ number (Err PremiseHeld) ∷ number (Err BookFull) ∷ number (Err OrderOpen) ∷ number (Err ReferenceHeld) ∷ number (Err DayOutOfRange) ∷ number (Err NoSwitchDate)
+    ∷ number (Err NotFirstIn) ∷ number (Err StackFull) ∷ number (Err NoSuchOrder) ∷ number (Err StatusNotTaken) ∷ number (Err NotNextDay)
+    ∷ number (Err CounterNotAbove) ∷ number (Err OrderInWindow) ∷ number (Err OtherAgreement) ∷ number (Err RetailerShareFull) ∷ [])
     (0 ∷ 1 ∷ 2 ∷ 3 ∷ 4 ∷ 5 ∷ 6 ∷ 7 ∷ 8 ∷ 9 ∷ 10 ∷ 11 ∷ 12 ∷ 13 ∷ 14 ∷ 15 ∷ 16 ∷ 17 ∷ 18 ∷ 26 ∷ []))
     ∷ piece "they start with the start day and no file" (leaves plain (start_state 10) [] (nothing 10))
     ∷ piece "they start at 4,095 if it is above" (numbered ((start_state 4095).today ∷ (start_state 4096).today ∷ []) (4095 ∷ 4095 ∷ []))

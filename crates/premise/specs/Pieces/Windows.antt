@@ -1,6 +1,6 @@
 -- Document 02, change 2: a window for each premise. T is 10 and every day a business day.
 use Rattle.std.specs.Prelude.{ℕ, List, [], ◌∷◌, map}
-use Rattle.std.proofs.Math.Option.{some}
+use Rattle.std.specs.Prelude.{Some}
 use Rattle.records.specs.declared.Record.{Record}
 use Rattle.records.specs.declared.Notice.{Notice}
 use Rattle.records.specs.Notices.{tdsp}
@@ -52,7 +52,7 @@ windows =
     (establishes 900 ∷ order move_in 10 1 202 ∷ schedule 1 10 ∷ read 1 10 ∷ mark 11 ∷ [])
     (record {
       today = 11;
-      file = some (with_window 4 (entered_file (with_agreement (file 202 10 (stands 1 move_in 202 10 10 complete 1 0 1 ∷ [])) 900)));
+      file = Some (with_window 4 (entered_file (with_agreement (file 202 10 (stands 1 move_in 202 10 10 complete 1 0 1 ∷ [])) 900)));
     }))
     ∷ piece "window 5: told at once" (tells_of 5 [] (said ∷ loses ∷ []))
     ∷ piece "window 4: told with mark 11" (tells_of 4 (marks 1 11) (loses ∷ []))

@@ -1,7 +1,7 @@
 -- What a date change tells: the TDSP, and then the premise's retailer where that is to hear of it too. Assumes nothing.
 use Prim.Native.Nat.{ℕ}
 use mathlib.Core.Path.{◌≡◌}
-use mathlib.Core.List.{List}
+use mathlib.Core.List.{List, [], ◌∷◌}
 use mathlib.Core.Bool.{Bool, true, false, not, ◌&&◌}
 use native.Mathlib.Omega.{arith}
 use lib.Dec.{eqb}
@@ -12,9 +12,10 @@ use Rattle.records.specs.Records.{move_in}
 use Rattle.premise.specs.declared.Order.{Order}
 use Rattle.premise.specs.declared.File.{File}
 use Rattle.premise.specs.Orders.{has_kind, no_retailer}
-use Rattle.premise.specs.Passes.{code_date_change}
-use Rattle.premise.specs.Promises.{Room}
+use Rattle.premise.specs.Passes.{code_date_change, notice}
 use Rattle.premise.specs.Steps.{redated, on_date_change}
+use Rattle.premise_notices.specs.declared.outbox.Outbox.{Outbox}
+use Rattle.premise_notices.specs.Outboxes.{RoomIn}
 use Rattle.premise_notices.specs.Telling.{telling}
 use Rattle.premise_effects.specs.ByKind.{telling_both}
 
@@ -34,7 +35,7 @@ module _ (calendar : List ℕ) (today : ℕ) (f : File) (r : Record) (o t : Orde
   told_twice h = rw (not-false (hears_too f o) h, left)
 
   -- the first of its notices has room
-  pub first_room : (standing : ℕ) (b : List ℕ) → Room standing (on_date_change calendar today f r o).notices b
-      → Room standing (telling code_date_change f.premise tdsp t).notices b
+  pub tells_room : (out : Outbox) → RoomIn out (on_date_change calendar today f r o).notices
+      → RoomIn out (notice code_date_change f.premise tdsp t ∷ [])
   unfolding on_date_change
-  first_room standing b room = omega (arith, room)
+  tells_room out room = omega (arith, room)

@@ -1,7 +1,7 @@
 -- What a record of kinds 4 to 9 tells: no notice on a read, else one, or two. Assumes nothing.
 use Prim.Native.Nat.{ℕ}
 use mathlib.Core.Path.{◌≡◌, sym, ap, ◌∙◌}
-use mathlib.Core.List.{List, [], ◌∷◌}
+use mathlib.Core.List.{[], ◌∷◌}
 use mathlib.Core.Bool.{true, false, cond, not}
 use native.Mathlib.Omega.{arith}
 use borrow.Author.Tests.{eq-eqb, ne_eqb, not-true, not-false}
@@ -10,10 +10,11 @@ use Rattle.records.specs.Records.{kind_scheduled, kind_permit, kind_unexecutable
 use Rattle.premise.specs.declared.Order.{Order}
 use Rattle.premise.specs.declared.File.{File}
 use Rattle.premise.specs.Passes.{Change, same, notice}
-use Rattle.premise.specs.Promises.{Room}
 use Rattle.premise.specs.Steps.{on_scheduled, on_permit, on_unexecutable, on_read, on_cancel, on_reply, on_order, told_retailer}
-use Rattle.premise_laws.proofs.OrderDone.{room_case}
+use Rattle.premise_notices.specs.declared.outbox.Outbox.{Outbox}
+use Rattle.premise_notices.specs.Outboxes.{RoomIn}
 use Rattle.premise_notices.specs.Telling.{telling}
+use Rattle.premise_notices.proofs.Sent.{room_case}
 use Rattle.premise_effects.specs.ByKind.{telling_both, LeftBy, hears_too, code_of, addressee_of}
 use Rattle.premise_effects.proofs.on_order.ByKind.{by_equal, on_reply_lem}
 
@@ -99,6 +100,5 @@ module _ (f : File) (r : Record) (o : Order) where
       told_twice h = by_told ∙ rw (not-false (hears_too second r o) h, k, a, left f)
 
       -- the first of its notices has room
-      pub first_room : (standing : ℕ) (bytes : List ℕ) → Room standing (on_order f r o).notices bytes
-          → Room standing (telling code f.premise addressee t).notices bytes
-      first_room standing bytes room = omega (arith, room_case (on_order f r o) standing bytes (told second f r o) by_told room)
+      pub tells_room : (out : Outbox) → RoomIn out (on_order f r o).notices → RoomIn out (notice code f.premise addressee t ∷ [])
+      tells_room out room = omega (arith, room_case (told second f r o) by_told out room)

@@ -10,18 +10,7 @@ use Rattle.records.specs.Records.{move_in, mass_transition_drop}
 use Rattle.premise.specs.declared.Order.{Order}
 use Rattle.premise.specs.Orders.{permit_pending, scheduled, cancel_pending, has_status, has_kind, is_switch}
 use Rattle.premise.specs.Evaluation.{is_scheduled_or_cancel_pending, contends, switch_on, overtakes}
-use Rattle.premise_evaluation.specs.Ousting.{is_near_drop, awaits_permit, is_preferred, may_be_ousted, ousts}
-
--- ---- whether an order can be ousted
-module _ (last : ℕ) (o : Order) where
-  pub permit_may : awaits_permit o ≡ true → true ≡ may_be_ousted last o
-  permit_may e = rw e
-
-  pub contender_may : awaits_permit o ≡ false → contends (up_to last) o ≡ true → true ≡ may_be_ousted last o
-  contender_may p e = rw (p, e)
-
-  pub drop_may : awaits_permit o ≡ false → contends (up_to last) o ≡ false → is_near_drop (up_to last) o ≡ may_be_ousted last o
-  drop_may p e = rw (p, e)
+use Rattle.premise_evaluation.specs.Ousting.{is_near_drop, awaits_permit, is_preferred, ousts}
 
 -- ---- one kind is not another
 module _ (near : ℕ → Bool) (o : Order) where

@@ -5,7 +5,7 @@ use mathlib.Core.Bool.{Bool, cond}
 use native.Mathlib.Omega.{arith}
 use lib.ListN.{length}
 use borrow.Author.Tests.{eq-eqb, ne_eqb}
-use Rattle.lists.specs.declared.Found.TheVariants.{At}
+use Rattle.std.specs.Prelude.{Some}
 use Rattle.lists.specs.Search.{place_of, without_first}
 use Rattle.lists.specs.Shift.{removed}
 use Rattle.lists.proofs.Find.{without_removed}
@@ -20,7 +20,7 @@ module _ (f : File) (tidy : Tidy f) where
   unfolding make_room
   room_free h = rw (ne_eqb (length (held f)) most_orders (λ e. omega (arith, e, length-held f tidy)))
 
-  pub room_full : most_orders ≤ f.count → (i : ℕ) → place_of is_closed (held f) ≡ At i → make_room (held f) ≡ removed i (held f)
+  pub room_full : most_orders ≤ f.count → (i : ℕ) → place_of is_closed (held f) ≡ Some i → make_room (held f) ≡ removed i (held f)
   unfolding make_room
   room_full h i e =
       let n : length (held f) ≡ most_orders = omega (arith, length-held f tidy, tidy.few) in

@@ -38,14 +38,8 @@ module _ {o : Order} {left rest : List Order} (e : left ≡ o ∷ rest) where
   pub rises_next : (n : ℕ) → rises_from n left ≡ (ltb n o.reference && rises_from o.reference rest)
   rises_next n = rw e
 
-  pub distinct_miss : any_of (has o.reference) rest ≡ true → distinct left ≡ false
-  distinct_miss q = rw (e, q)
-
   pub distinct_next : any_of (has o.reference) rest ≡ false → distinct left ≡ distinct rest
   distinct_next q = rw (e, q)
 
 pub rises_end : (n : ℕ) {left : List Order} → left ≡ [] → rises_from n left ≡ true
 rises_end n e = rw e
-
-pub distinct_end : {left : List Order} → left ≡ [] → distinct left ≡ true
-distinct_end e = rw e

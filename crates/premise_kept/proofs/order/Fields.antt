@@ -1,17 +1,17 @@
--- Laws of an order's fields: which case of the status decides the scheduled day and the days in Cancel Pending, and that the fields in
--- range make up the definition. Assumes nothing.
+-- Laws of an order's fields: which case of the status decides the scheduled day, and that the fields in range make up the definition.
+-- Assumes nothing.
 use Prim.Native.Nat.{ℕ}
 use mathlib.Core.Path.{◌≡◌, refl, sym}
 use mathlib.Core.Bool.{Bool, true, false, cond, not, ◌&&◌, ◌||◌, and-true, and-false, or-false}
 use native.Mathlib.Omega.{arith}
 use lib.Dec.{eqb, leb}
-use borrow.Author.Tests.{eqb-true, eqb-false, ne_eqb, leb-true, leb-false, le-leb, lt-leb}
+use borrow.Author.Tests.{eqb-true, eqb-false, leb-true, leb-false, le-leb, lt-leb}
 use Rattle.lists.proofs.TestLaws.{or_either}
 use Rattle.days.specs.Days.{last_day, no_day, is_day}
 use Rattle.records.specs.Records.{last_counter, a_reference, a_retailer, an_order_kind}
 use Rattle.premise.specs.declared.Order.{Order}
-use Rattle.premise.specs.Orders.{in_review, permit_pending, scheduled, cancel_pending, complete, unexecutable, has_status}
-use Rattle.premise.specs.Clock.{most_waited, most_pending}
+use Rattle.premise.specs.Orders.{in_review, permit_pending, scheduled, complete, unexecutable, has_status}
+use Rattle.premise.specs.Clock.{most_waited}
 use Rattle.premise.specs.WellKept.{day_fits, permit_fits, pending_fits, order_kept_by, order_kept}
 
 -- a day or none is a number up to none's
@@ -51,13 +51,6 @@ module _ (o : Order) where
           → ((is_day day && not u) || (eqb day no_day && not dated)) ≡ cond u (eqb day no_day) (cond dated (is_day day) (leb day no_day))
       go true e = rw (not_dated e, and-false (is_day day), and-true (eqb day no_day))
       go false e = given dated
-
-  -- ---- the days in Cancel Pending
-  pub pending_counted : o.status ≡ cancel_pending → not (leb most_pending o.pending.0) ≡ pending_fits o
-  pending_counted e = rw e
-
-  pub pending_other : (o.status ≡ cancel_pending → ⊥) → eqb o.pending.0 0 ≡ pending_fits o
-  pending_other n = rw (ne_eqb o.status cancel_pending n)
 
   -- ---- every field, with what the two tests by the status answer
   abbrev fields : Bool → Bool → Bool

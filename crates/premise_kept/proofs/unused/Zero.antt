@@ -1,20 +1,18 @@
 -- Laws of unused places. A place of a file: it is unused exactly if its wide fields and the sum of its narrow ones are zero. A place of the
--- book: a field besides its orders that is not zero fails the test, and else the places decide. The places of a file, looked at one after
--- another. Assumes nothing.
-use Prim.Native.Nat.{ℕ, ◌+◌, ◌≤◌, ◌<◌}
+-- book: a field besides its orders that is not zero fails the test, and else the places decide. Assumes nothing.
+use Prim.Native.Nat.{ℕ, ◌+◌}
 use mathlib.Core.Path.{◌≡◌, refl, sym, ◌∙◌}
-use mathlib.Core.List.{List, [], ◌∷◌}
-use mathlib.Core.Bool.{Bool, true, false, not, ◌&&◌}
+use mathlib.Core.List.{[], ◌∷◌}
+use mathlib.Core.Bool.{Bool, true, false, ◌&&◌}
 use native.Mathlib.Omega.{arith}
 use lib.Dec.{eqb}
-use lib.ListN.{length, drop, get_or}
-use borrow.Author.Tests.{eqb-true, eq-eqb, not-true, not-false}
+use lib.ListN.{length}
+use borrow.Author.Tests.{eqb-true, eq-eqb}
 use Rattle.lists.specs.Search.{all_of}
-use Rattle.lists.proofs.Find.{drop-first, drop-none, all_miss, all_next, all_end}
 use Rattle.lists.proofs.TestLaws.{pass_each}
 use Rattle.premise.specs.declared.Order.{Order}
 use Rattle.premise.specs.declared.File.{File}
-use Rattle.premise.specs.Orders.{most_orders, blank}
+use Rattle.premise.specs.Orders.{most_orders}
 use Rattle.premise.specs.WellKept.{is_blank, file_blank}
 use Rattle.premise.proofs.Blank.{blank_is}
 
@@ -60,29 +58,10 @@ module _ (f : File) where
   head_blank = eqb f.premise 0 && eqb f.retailer 0 && eqb f.since 0 && eqb f.window 0
       && eqb f.agreement 0 && eqb f.entered 0 && eqb f.count 0
 
-  pub head_used : not head_blank ≡ true → false ≡ file_blank f
+  pub head_used : head_blank ≡ false → head_blank ≡ file_blank f
   unfolding file_blank
-  head_used e = rw (not-true head_blank e)
+  head_used e = rw e
 
-  pub places_decide : not head_blank ≡ false → length f.orders ≡ most_orders → all_of is_blank f.orders ≡ file_blank f
+  pub places_decide : head_blank ≡ true → length f.orders ≡ most_orders → all_of is_blank f.orders ≡ file_blank f
   unfolding file_blank
-  places_decide e eight = rw (not-false head_blank e, eq-eqb (length f.orders) most_orders eight)
-
--- ---- places of a file that are the last part of a test: the test of those left gives what the whole test gives
-pub record PlacesLeft (orders : List Order) (whole : Bool) (i : ℕ) : Type 0 where
-  pub eight : length orders ≡ most_orders
-  pub decides : all_of is_blank (drop i orders) ≡ whole
-
-module _ {orders : List Order} {whole : Bool} {i : ℕ} (v : PlacesLeft orders whole i) where
-  module _ (h : i < most_orders) where
-    place : drop i orders ≡ get_or orders i blank ∷ drop (i + 1) orders
-    place = drop-first blank orders i (omega (arith, v.eight))
-
-    pub place_used : is_blank (get_or orders i blank) ≡ false → false ≡ whole
-    place_used q = sym (all_miss is_blank place q) ∙ v.decides
-
-    pub place_unused : is_blank (get_or orders i blank) ≡ true → PlacesLeft orders whole (i + 1)
-    place_unused q = record { eight = v.eight; decides = sym (all_next is_blank place q) ∙ v.decides }
-
-  pub places_end : most_orders ≤ i → true ≡ whole
-  places_end h = sym (all_end is_blank (drop-none orders i (omega (arith, v.eight)))) ∙ v.decides
+  places_decide e eight = rw (e, eq-eqb (length f.orders) most_orders eight)

@@ -10,12 +10,12 @@ use Rattle.records.specs.declared.Record.{Record}
 use Rattle.records.specs.Records.{kind_read, move_in, move_out}
 use Rattle.premise.specs.declared.Order.{Order}
 use Rattle.premise.specs.declared.File.{File}
-use Rattle.premise.specs.declared.OrderAfter.{OrderAfter}
 use Rattle.premise.specs.Orders.{scheduled, has_status, has_kind, blank, held, with_orders, with_supply}
 use Rattle.premise.specs.Steps.{is, on_named, is_held_off, supplied, changed}
 use Rattle.premise.specs.WellKept.{Tidy}
-use Rattle.premise.specs.Promises.{Room, DoneToOrder, DoneToFile}
 use Rattle.premise_laws.proofs.FileOrders.{tidy_supply, tidy_set}
+use Rattle.premise_notices.specs.declared.outbox.Outbox.{Outbox}
+use Rattle.premise_notices.specs.Outboxes.{RoomIn, DoneToOrder, DoneToFile}
 
 module _ (f : File) (r : Record) (o : Order) where
   -- a record changes who supplies the premise, and none of its orders
@@ -43,23 +43,22 @@ module _ (f : File) (r : Record) (o : Order) where
 pub changed_tidy : (h : File) → Tidy h → (i : ℕ) (t : Order) (g : File) → g ≡ with_orders h (set (held h) i t) → Tidy g
 changed_tidy h tidy i t g e = subst⁻¹ Tidy e (tidy_set h tidy i t)
 
--- the file with it, and its notices; s is what the code made of the order, h the file with its supply
+-- the file with it, and its notices; t is what the code made of the order, h the file with its supply
 module _ (calendar : List ℕ) (today : ℕ) (f : File) (r : Record) (i : ℕ) {o : Order} (e : o ≡ get_or (held f) i blank) where
-  pub changed_room : (standing : ℕ) (b : List ℕ) → Room standing (changed calendar today f r i (get_or (held f) i blank)).notices b
-      → Room standing (on_named calendar today f r o).notices b
+  pub changed_room : (out : Outbox) → RoomIn out (changed calendar today f r i (get_or (held f) i blank)).notices
+      → RoomIn out (on_named calendar today f r o).notices
   unfolding changed
-  changed_room standing b room = subst⁻¹ (λ (x : Order). Room standing (on_named calendar today f r x).notices b) e room
+  changed_room out room = subst⁻¹ (λ (x : Order). RoomIn out (on_named calendar today f r x).notices) e room
 
-  pub changed_done : {standing : ℕ} {s : OrderAfter} {b c : List ℕ} → DoneToOrder (on_named calendar today f r o) standing s b c → {h : File}
-      → h ≡ supplied f r o
-      → {g : File} → g ≡ with_orders h (set (held h) i s.order)
-      → DoneToFile (changed calendar today f r i (get_or (held f) i blank)) standing (record { file = g; sent = s.sent }) b c
+  pub changed_done : {t : Order} {before after : Outbox} → DoneToOrder (on_named calendar today f r o) t before after
+      → {h : File} → h ≡ supplied f r o → {g : File} → g ≡ with_orders h (set (held h) i t)
+      → DoneToFile (changed calendar today f r i (get_or (held f) i blank)) g before after
   unfolding changed
-  changed_done {standing} {s} {b} {c} done k {g} q =
-      subst (λ (x : Order). DoneToFile (changed calendar today f r i x) standing (record { file = g; sent = s.sent }) b c) e
+  changed_done {t} {before} {after} done k {g} q =
+      subst (λ (x : Order). DoneToFile (changed calendar today f r i x) g before after) e
       (record {
-        file =
-            q ∙ ap (λ (x : File). with_orders x (set (held x) i s.order)) k
-            ∙ ap₂ (λ (os : List Order) (x : Order). with_orders (supplied f r o) (set os i x)) (supplied_held f r o) done.order;
-        wrote = done.wrote;
+        file_after =
+            q ∙ ap (λ (x : File). with_orders x (set (held x) i t)) k
+            ∙ ap₂ (λ (os : List Order) (x : Order). with_orders (supplied f r o) (set os i x)) (supplied_held f r o) done.order_after;
+        sends = done.sends;
       })

@@ -16,9 +16,10 @@ use Rattle.premise.specs.Orders.{most_orders, is_open, held, with_orders}
 use Rattle.premise.specs.Passes.{notice}
 use Rattle.premise.specs.Steps.{new_order, make_room, ordered}
 use Rattle.premise.specs.WellKept.{Tidy}
-use Rattle.premise.specs.Promises.{Writes, DoneToFile}
 use Rattle.premise_laws.proofs.KeptNew.{room_few}
 use Rattle.premise.proofs.KeptFiles.{length-held, tidy_with}
+use Rattle.premise_notices.specs.declared.outbox.Outbox.{Outbox}
+use Rattle.premise_notices.specs.Outboxes.{Sends, DoneToFile}
 use Rattle.premise_steps.specs.NewOrderCode.{code_for}
 
 -- there is room for it
@@ -30,14 +31,13 @@ ordered_tidy f tidy free o g e =
 
 -- the file with it, and its notice
 pub ordered_done : (calendar : List ℕ) (today : ℕ) (f : File) (r : Record) {o : Order} → o ≡ new_order calendar today r
-    → {code : ℕ} → code ≡ code_for r.detail → {n : Notice} → n ≡ notice code f.premise tdsp o → {g : File}
-    → g ≡ with_orders f (make_room (held f) ++ (o ∷ []))
-    → {standing sent : ℕ} {b c : List ℕ} → Writes standing b c sent (n ∷ [])
-    → DoneToFile (ordered calendar today f r) standing (record { file = g; sent = sent }) b c
+    → {code : ℕ} → code ≡ code_for r.detail → {g : File} → g ≡ with_orders f (make_room (held f) ++ (o ∷ []))
+    → {before after : Outbox} → Sends before after (notice code g.premise tdsp o ∷ [])
+    → DoneToFile (ordered calendar today f r) g before after
 unfolding ordered
-ordered_done calendar today f r e k m h {standing} {sent} {b} {c} w =
+ordered_done calendar today f r {o} e {code} k h {before} {after} w =
     record {
-      file = h ∙ ap (λ (x : Order). with_orders f (make_room (held f) ++ (x ∷ []))) e;
-      wrote = subst (λ (x : Notice). Writes standing b c sent (x ∷ [])) (m ∙ ap₂ (λ (x : ℕ) (y : Order). notice x f.premise tdsp y) k e)
-          w;
+      file_after = h ∙ ap (λ (x : Order). with_orders f (make_room (held f) ++ (x ∷ []))) e;
+      sends = subst (λ (x : Notice). Sends before after (x ∷ []))
+          (ap (λ (x : File). notice code x.premise tdsp o) h ∙ ap₂ (λ (x : ℕ) (y : Order). notice x f.premise tdsp y) k e) w;
     }

@@ -1,89 +1,67 @@
--- A number's bytes over part of a list: store by store, and one field behind another. Assumes nothing.
-use Prim.Native.Nat.{ℕ, zero, suc, ◌+◌, ◌-◌, ◌/◌, ◌%◌, ◌<◌, ◌≤◌}
+-- A notice's fields over the front of a list: one behind another, each in the bytes that std gives. Assumes nothing.
+use Prim.Native.Nat.{ℕ, zero, suc, ◌+◌, ◌/◌, ◌%◌, ◌^◌, ◌<◌, ◌≤◌}
 use mathlib.Core.Path.{◌≡◌, refl, sym, ap, ap₂, ◌∙◌}
-use mathlib.Core.List.{List, [], ◌∷◌, ◌++◌, append-nil}
-use native.Mathlib.Nat.{not-suc-le-zero, le_of_suc-le-suc}
+use mathlib.Core.List.{List, [], ◌∷◌, ◌++◌}
+use Rattle.std.proofs.Math.Nat.{div-div-eq-div-mul, pow-suc}
 use native.Mathlib.Omega.{arith}
-use lib.ListN.{length, take, drop, set, length-set, take-append-drop}
+use lib.ListN.{length, take, drop, set}
 use lib.Seq.{take_at, drop_at, drop-drop}
+use borrow.Rule.Slice.PartMut.{put_mid}
+use Rattle.std.specs.Int.{w16, w32, w64, byte_at, bytes_low_first, to_le_bytes}
 use Rattle.records.specs.declared.Notice.{Notice}
 use Rattle.records.specs.Layout.{record_length, bytes_of}
 use Rattle.records.specs.Notices.{encode_by, encode}
 
--- so many bytes of a number, from a place on
-abbrev put : ℕ → ℕ → ℕ → List ℕ → List ℕ
-put at width n b = take at b ++ bytes_of width n ++ drop width (drop at b)
+-- what std calls a number's bytes from one on, low byte first
+byte_is : (i n : ℕ) → byte_at i n ≡ n / 256 ^ i % 256
+byte_is zero n =
+    let whole : n ≡ n / 1 = omega arith in
+    ap (λ (m : ℕ). m % 256) whole
+byte_is (suc i) n = refl
 
-put_store : (at width n : ℕ) (b : List ℕ) → at < length b → put (suc at) width (n / 256) (set b at (n % 256)) ≡ put at (suc width) n b
-put_store at width n [] h = absurd (not-suc-le-zero h)
-put_store zero width n (x ∷ b) h = refl
-put_store (suc at) width n (x ∷ b) h = ap (λ (l : List ℕ). x ∷ l) (put_store at width n b (le_of_suc-le-suc h))
+low_first : (i width n : ℕ) → bytes_low_first i width n ≡ bytes_of width (n / 256 ^ i)
+low_first i zero n = refl
+low_first i (suc width) n =
+    let next : n / 256 ^ suc i ≡ n / 256 ^ i / 256 = ap (λ (m : ℕ). n / m) (pow-suc 256 i) ∙ sym (div-div-eq-div-mul n (256 ^ i) 256) in
+    ap₂ (λ (b : ℕ) (bs : List ℕ). b ∷ bs) (byte_is i n) (low_first (suc i) width n ∙ ap (bytes_of width) next)
 
--- after i stores the bytes that are still to come make up the whole
-pub record Putting (at width n : ℕ) (before b : List ℕ) (left i : ℕ) : Type 0 where
-  pub within : i ≤ width
-  pub long : length b ≡ length before
-  pub whole : put (at + i) (width - i) left b ≡ put at width n before
+all_bytes : (width n : ℕ) → bytes_low_first 0 width n ≡ bytes_of width n
+all_bytes width n =
+    let whole : n / 1 ≡ n = omega arith in
+    low_first 0 width n ∙ ap (bytes_of width) whole
 
-module _ (at width n : ℕ) (before : List ℕ) where
-  pub put_start : Putting at width n before before n 0
-  put_start =
-      let here : at + 0 ≡ at = omega arith in
-      let all : width - 0 ≡ width = omega arith in
-      record { within = omega arith; long = refl; whole = ap₂ (λ (a w : ℕ). put a w n before) here all }
-
-  module _ (b : List ℕ) (left i : ℕ) (p : Putting at width n before b left i) where
-    pub put_more : at + width ≤ length before → i < width → Putting at width n before (set b (at + i) (left % 256)) (left / 256) (i + 1)
-    put_more room h =
-        let next : at + (i + 1) ≡ suc (at + i) = omega arith in
-        let one : suc (width - (i + 1)) ≡ width - i = omega arith in
-        record {
-          within = omega arith;
-          long = length-set b (at + i) (left % 256) ∙ p.long;
-          whole =
-              ap (λ (k : ℕ). put k (width - (i + 1)) (left / 256) (set b (at + i) (left % 256))) next
-              ∙ put_store (at + i) (width - (i + 1)) left b (omega (arith, p.long))
-              ∙ ap (λ (w : ℕ). put (at + i) w left b) one
-              ∙ p.whole;
-        }
-
-    pub put_end : width ≤ i → b ≡ take at before ++ bytes_of width n ++ drop (at + width) before
-    put_end h =
-        let none : 0 ≡ width - i = omega arith in
-        sym (take-append-drop (at + i) b)
-        ∙ ap (λ (l : List ℕ). l ++ drop (at + i) b) (sym (append-nil (take (at + i) b)))
-        ∙ ap (λ (w : ℕ). put (at + i) w left b) none
-        ∙ p.whole
-        ∙ ap (λ (l : List ℕ). take at before ++ bytes_of width n ++ l) (drop-drop width at before)
-
--- A field is put behind those that stand in front: the rest is as it was before.
-pub put_behind : (done new before b after : List ℕ) (at width : ℕ) → length done ≡ at → b ≡ done ++ drop at before
-    → after ≡ take at b ++ new ++ drop (at + width) b → after ≡ done ++ new ++ drop (at + width) before
-put_behind done new before b after at width k e p =
+-- A field's bytes are put behind those that stand in front: the rest is as it was before.
+put_behind : (done before b bytes : List ℕ) (at width n : ℕ) → length done ≡ at → b ≡ done ++ drop at before
+    → bytes ≡ bytes_low_first 0 width n → put_mid at width b bytes ≡ done ++ (bytes_of width n ++ drop (at + width) before)
+put_behind done before b bytes at width n k e p =
     let front : take at b ≡ done = ap (take at) e ∙ take_at done (drop at before) at k in
     let back : drop at b ≡ drop at before = ap (drop at) e ∙ drop_at done (drop at before) at k in
-    let rest : drop (at + width) b ≡ drop (at + width) before =
-    sym (drop-drop width at b) ∙ ap (drop width) back ∙ drop-drop width at before in
-    p ∙ ap₂ (λ (l r : List ℕ). l ++ new ++ r) front rest
+    ap₂ (λ (l r : List ℕ). l ++ (bytes ++ r)) front (ap (drop width) back ∙ drop-drop width at before)
+    ∙ ap (λ (l : List ℕ). done ++ (l ++ drop (at + width) before)) (p ∙ all_bytes width n)
+
+-- The first two fields are a byte each.
+two_bytes : (b : List ℕ) (code kind : ℕ) → record_length ≤ length b → code < 256 → kind < 256
+    → set (set b 0 code) 1 kind ≡ bytes_of 1 code ++ bytes_of 1 kind ++ drop 2 b
+two_bytes [] code kind h c k = absurd (omega arith)
+two_bytes (x ∷ []) code kind h c k = absurd (omega arith)
+two_bytes (x ∷ y ∷ b) code kind h c k =
+    let low : code ≡ code % 256 = omega arith in
+    let next : kind ≡ kind % 256 = omega arith in
+    ap₂ (λ (l r : ℕ). l ∷ r ∷ b) low next
 
 -- A notice's fields, one behind another, make up its bytes.
-pub put_notice : (n : Notice) (b code kind day reference premise addressee : List ℕ)
-    → code ≡ take 0 b ++ bytes_of 1 n.code ++ drop 1 b
-    → kind ≡ take 1 code ++ bytes_of 1 n.kind ++ drop 2 code
-    → day ≡ take 2 kind ++ bytes_of 2 n.day ++ drop 4 kind
-    → reference ≡ take 4 day ++ bytes_of 4 n.reference ++ drop 8 day
-    → premise ≡ take 8 reference ++ bytes_of 8 n.premise ++ drop 16 reference
-    → addressee ≡ take 16 premise ++ bytes_of 8 n.addressee ++ drop 24 premise
-    → addressee ≡ encode n ++ drop record_length b
+pub put_notice : (n : Notice) (b day reference premise addressee : List ℕ) → record_length ≤ length b → n.code < 256 → n.kind < 256
+    → day ≡ to_le_bytes w16 n.day → reference ≡ to_le_bytes w32 n.reference → premise ≡ to_le_bytes w64 n.premise
+    → addressee ≡ to_le_bytes w64 n.addressee
+    → put_mid 16 8 (put_mid 8 8 (put_mid 4 4 (put_mid 2 2 (set (set b 0 n.code) 1 n.kind) day) reference) premise) addressee
+    ≡ encode n ++ drop record_length b
 unfolding encode_by
-put_notice n b code kind day reference premise addressee e f g h k l =
-    let one = bytes_of 1 n.code in
-    let two = one ++ bytes_of 1 n.kind in
+put_notice n b day reference premise addressee long code kind e f g h =
+    let two = bytes_of 1 n.code ++ bytes_of 1 n.kind in
     let four = two ++ bytes_of 2 n.day in
     let eight = four ++ bytes_of 4 n.reference in
     let sixteen = eight ++ bytes_of 8 n.premise in
-    put_behind sixteen (bytes_of 8 n.addressee) b premise addressee 16 8 refl
-    (put_behind eight (bytes_of 8 n.premise) b reference premise 8 8 refl
-    (put_behind four (bytes_of 4 n.reference) b day reference 4 4 refl
-    (put_behind two (bytes_of 2 n.day) b kind day 2 2 refl
-    (put_behind one (bytes_of 1 n.kind) b code kind 1 1 refl e f) g) h) k) l
+    put_behind sixteen b _ addressee 16 8 n.addressee refl
+    (put_behind eight b _ premise 8 8 n.premise refl
+    (put_behind four b _ reference 4 4 n.reference refl
+    (put_behind two b _ day 2 2 n.day refl (two_bytes b n.code n.kind long code kind) e) f) g) h

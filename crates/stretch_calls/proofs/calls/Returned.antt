@@ -6,7 +6,8 @@ use lib.ListN.{length, drop, replicate, length-replicate}
 use Rattle.records.specs.declared.Notice.{Notice}
 use Rattle.records.specs.Layout.{record_length}
 use Rattle.records.specs.Notices.{encode_all}
-use Rattle.premise.specs.declared.Answer.TheVariants.{NotWellKept}
+use Rattle.std.specs.Prelude.{Err}
+use Rattle.premise.specs.declared.Refusal.TheVariants.{NotWellKept}
 use Rattle.book.specs.declared.Book.{Book}
 use Rattle.book.specs.Calls.{refusal}
 use Rattle.book.specs.CallsInRow.{stopped}
@@ -23,7 +24,7 @@ nothing_returned answers notices e =
     (record { answer = refl; played = refl; book = refl; answers = refl; notices = record { count = refl; bytes = refl } })
 
 pub twos_returned : {x : Outcome} {b : Book} (n : ℕ) (answers₀ answers₁ notices : List ℕ)
-    → x ≡ record { answer = Taken; course = record { results = replicate n (refusal NotWellKept b); book = b; left = [] } }
+    → x ≡ record { answer = Taken; course = record { results = replicate n (refusal (Err NotWellKept) b); book = b; left = [] } }
     → answers₁ ≡ replicate n 2 ++ drop n answers₀
     → Gives x (record { answer = Taken; played = n; sent = 0; book = b }) answers₀ answers₁ notices notices
 twos_returned {x} {b} n answers₀ answers₁ notices e answered =
@@ -31,7 +32,7 @@ twos_returned {x} {b} n answers₀ answers₁ notices e answered =
     gives_as (sym e)
     (record {
       answer = refl;
-      played = sym (length-replicate n (refusal NotWellKept b));
+      played = sym (length-replicate n (refusal (Err NotWellKept) b));
       book = refl;
       answers =
           answered ∙ ap (λ (k : ℕ). replicate n 2 ++ drop k answers₀) long

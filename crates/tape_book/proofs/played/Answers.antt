@@ -1,39 +1,28 @@
-use mathlib.Core.Path.{refl, ◌∙◌}
 use native.Mathlib.Omega.{arith}
+use Rattle.std.proofs.Common.{◌∙◌, rules}
 use Rattle.tape_book.proofs.Underway.{begun, played_on_lem, played_all}
 use Rattle.tape_book.proofs.played.Goals as goal
 
-pub loop-from-init : goal.loop-from-init
-loop-from-init c =
-    let a = c.args in
-    (begun a.calendar.now a.tape.now a.notices.now _ c.fresh-b.ensures c.requires, refl)
+pub loop-record-init : goal.loop-record-init
+loop-record-init c = record {
+  can = search rules;
+  finite = tt;
+  size = search rules;
+  underway = begun _ _ _ _ _ c.fresh-b.ensures (search rules) c.requires;
+}
 
-pub record_end-to-requires : goal.record_end-to-requires
-record_end-to-requires c = c.loop-from-test.true
-
-pub slice_bounds-record_call-count : goal.slice_bounds-record_call-count
-slice_bounds-record_call-count c = omega (arith, c.record_end-to.ensures, c.loop-from-test.true)
-
-pub slice_bounds-record_call-start : goal.slice_bounds-record_call-start
-slice_bounds-record_call-start c = omega (arith, c.record_end-to.ensures, c.loop-from-test.true)
-
-pub slice_bounds-record_call-end : goal.slice_bounds-record_call-end
-slice_bounds-record_call-end c = omega (arith, c.record_end-to.ensures, c.loop-from-test.true)
-
-pub loop-from-smaller : goal.loop-from-smaller
-loop-from-smaller c =
-    omega (arith, c.record_end-to.ensures, c.loop-from-test.true)
-
-pub loop-from-preserved : goal.loop-from-preserved
-loop-from-preserved c =
-    let v = c.loop-from.invariant in (
-      played_on_lem v.0 c.loop-from-test.true c.record_end-to.result c.record_end-to.ensures _ _ c.record_call-reply.ensures
-          c.record_call-reply.auto.buffer,
-      c.record_call-reply.auto.buffer ∙ v.1,
-    )
-
-pub shape_of-notices : goal.shape_of-notices
-shape_of-notices c = c.loop-from.invariant.1
+pub loop-record-preserved : goal.loop-record-preserved
+loop-record-preserved c =
+    let v = c.loop-record.invariant in
+    let s = rw c.in-Some.is at c.next.ensures.steps in record {
+      can = search rules;
+      finite = tt;
+      size = s.0 ∙ v.size;
+      underway = played_on_lem v.underway _ _ s.1.0 (omega (arith, s.1.1, v.size)) s.1.2 _ _ c.record_call.ensures
+          c.record_call.auto.buffer;
+    }
 
 pub returns : goal.returns
-returns c = played_all c.loop-from.invariant.0 (omega (arith, c.loop-from-test.false))
+returns c =
+    let s = rw c.in-None.is at c.next.ensures.steps in
+    played_all c.loop-record.invariant.underway s.1.0

@@ -1,7 +1,7 @@
 -- From stretch to stretch: what is handed on can be played on, its text stands in the buffer, and the records come to an end. Assumes
 -- nothing.
 use Prim.Native.Nat.{ℕ, ◌-◌, ◌≤◌, ◌<◌}
-use mathlib.Core.Path.{◌≡◌, refl, sym, ap, subst, ◌∙◌}
+use mathlib.Core.Path.{◌≡◌, sym, ap, subst, ◌∙◌}
 use mathlib.Core.List.{List}
 use mathlib.Core.Bool.{false}
 use native.Mathlib.Omega.{arith}
@@ -12,7 +12,7 @@ use Rattle.tape_output.specs.declared.Stretch.{Stretch}
 use Rattle.tape_output.specs.Output.{starting, tape_most}
 use Rattle.tape_output.specs.Stretches.{stretch, left, Ready, Roomy, Plays}
 use Rattle.tape_output.proofs.Ready.{start_ready}
-use Rattle.tape_output.proofs.Stretches.{stretch_goes_on, stretch_moves, stretch_fits}
+use Rattle.tape_output.proofs.Stretches.{stretch_goes_on, stretch_moves}
 
 -- the four buffers of a stretch
 pub record Buffers : Type 0 where
@@ -28,32 +28,22 @@ pub record SameLengths (b c : Buffers) : Type 0 where
   pub notices : length c.notices ≡ length b.notices
   pub out : length c.out ≡ length b.out
 
--- a tape between two stretches, with the buffers as they were lent and as they are
-pub record Between (tape : List ℕ) (lent now : Buffers) (p : Playing) : Type 0 where
+-- a tape between two stretches, with the buffers as they are
+pub record Between (tape : List ℕ) (now : Buffers) (p : Playing) : Type 0 where
   pub ready : Ready p
   pub short : length tape ≤ tape_most
   pub room : Roomy now.answers now.counts now.notices now.out
-  pub same : SameLengths lent now
 
 -- before the first stretch
 pub between_first : (tape : List ℕ) (b : Buffers) (p : Playing) → p ≡ starting → length tape ≤ tape_most
-    → Roomy b.answers b.counts b.notices b.out → Between tape b b p
+    → Roomy b.answers b.counts b.notices b.out → Between tape b p
 between_first tape b p start short room =
-    record {
-      ready = subst Ready (sym start) start_ready;
-      short = short;
-      room = room;
-      same = record { answers = refl; counts = refl; notices = refl; out = refl };
-    }
+    record { ready = subst Ready (sym start) start_ready; short = short; room = room }
 
-module _ (calendar tape : List ℕ) (lent b : Buffers) (p : Playing) (at : Between tape lent b p) (c : Buffers) (r : Stretch)
+module _ (calendar tape : List ℕ) (b : Buffers) (p : Playing) (at : Between tape b p) (c : Buffers) (r : Stretch)
     (plays : Plays 0 (stretch calendar (length b.out) p (left p tape)) r b.out c.out) (kept : SameLengths b c) where
-  -- the text of a stretch stands in the buffer
-  pub text_stands : r.stop ≤ length c.out
-  text_stands = omega (arith, kept.out, plays.text.end, stretch_fits calendar tape (length b.out) p at.ready)
-
   -- what it hands on can be played on
-  pub between_next : Between tape lent c r.playing
+  pub between_next : Between tape c r.playing
   between_next =
       record {
         ready = subst Ready (sym plays.playing) (stretch_goes_on calendar tape (length b.out) p at.short at.ready).ready;
@@ -63,12 +53,6 @@ module _ (calendar tape : List ℕ) (lent b : Buffers) (p : Playing) (at : Betwe
           counts = omega (arith, kept.counts, at.room.counts);
           notices = kept.notices ∙ at.room.notices;
           text = omega (arith, kept.out, at.room.text);
-        };
-        same = record {
-          answers = kept.answers ∙ at.same.answers;
-          counts = kept.counts ∙ at.same.counts;
-          notices = kept.notices ∙ at.same.notices;
-          out = kept.out ∙ at.same.out;
         };
       }
 

@@ -3,11 +3,10 @@ use Prim.Native.Nat.{ℕ, ◌+◌, ◌≤◌, ◌<◌}
 use mathlib.Core.Path.{◌≡◌, sym, ap, ◌∙◌}
 use mathlib.Core.List.{List, [], ◌++◌, append_assoc, append-nil}
 use native.Mathlib.Omega.{arith}
-use lib.ListN.{length, drop, get_or, length-take}
-use Rattle.lists.proofs.Find.{drop_part, part_none}
+use lib.ListN.{length, drop, get_or}
+use Rattle.lists.proofs.Find.{drop-first, drop-none}
 use Rattle.premise.specs.declared.File.{File}
-use Rattle.book.specs.Book.{most_files, files_of}
-use Rattle.book.proofs.Kept.{count_is, book_kept_means}
+use Rattle.book.specs.Book.{files_of}
 use Rattle.book_files.proofs.Tidy.{past}
 use Rattle.tape_text.specs.Numbers.{Puts}
 use Rattle.tape_text.specs.Text.{file_line, total_line}
@@ -28,18 +27,13 @@ abbrev pub ending_from : Playing → ℕ → List ℕ
 ending_from p i = file_lines (drop i (files_of p.book)) ++ last_line p
 
 pub record Filed (p : Playing) (start : ℕ) (before after : List ℕ) (at i : ℕ) : Type 0 where
-  pub few : p.book.count ≤ most_files
-  pub held : p.book.count ≤ length p.book.files
   pub room : start + length (ending p) ≤ length before
   pub put : Putting (ending p) (ending_from p i) start before after at
 
 pub filed_none : (p : Playing) (start : ℕ) (b : List ℕ) → Ready p → start + ending_most ≤ length b → Filed p start b b start 0
 unfolding ending
 filed_none p start b ready room =
-    let k = (book_kept_means p.book).0 ready.kept in
     record {
-      few = k.tidy.few;
-      held = omega (arith, count_is p.book k.tidy, length-take p.book.count p.book.files);
       room = omega (arith, ending_most_lem p ready);
       put = putting_none (ending p) start b;
     }
@@ -49,13 +43,13 @@ module _ {p : Playing} {start : ℕ} {b c : List ℕ} {at i : ℕ} (l : Filed p 
   filed_length = putting_length l.put l.room
 
   -- one file more
-  module _ (h : i < p.book.count) where
+  module _ (h : i < length (files_of p.book)) where
     abbrev file : File
-    file = get_or p.book.files i past
+    file = get_or (files_of p.book) i past
 
     next : ending_from p i ≡ line_of file ++ ending_from p (i + 1)
     next =
-        ap (λ (fs : List File). file_lines fs ++ last_line p) (drop_part past p.book.files p.book.count i l.held h)
+        ap (λ (fs : List File). file_lines fs ++ last_line p) (drop-first past (files_of p.book) i h)
         ∙ append_assoc (line_of file) (file_lines (drop (i + 1) (files_of p.book))) (last_line p)
 
     pub filed_room : at + length (line_of file) ≤ length c
@@ -63,16 +57,14 @@ module _ {p : Playing} {start : ℕ} {b c : List ℕ} {at i : ℕ} (l : Filed p 
 
     pub filed_more : {d : List ℕ} {to : ℕ} → Puts at c d to (line_of file) → Filed p start b d to (i + 1)
     filed_more q = record {
-      few = l.few;
-      held = l.held;
       room = l.room;
       put = putting_more l.put l.room (line_of file) (ending_from p (i + 1)) next q;
     }
 
   -- the last line
-  module _ (h : p.book.count ≤ i) where
+  module _ (h : length (files_of p.book) ≤ i) where
     last : Putting (ending p) (last_line p) start b c at
-    last = rw (part_none p.book.files p.book.count i h) at l.put
+    last = rw (drop-none (files_of p.book) i h) at l.put
 
     pub filed_last : at + length (last_line p) ≤ length c
     filed_last = putting_room last l.room (last_line p) [] (sym (append-nil (last_line p)))

@@ -1,11 +1,12 @@
--- The loop that puts the texts of records in a row: after i turns those of the first i are put. Assumes nothing.
-use Prim.Native.Nat.{ℕ, ◌+◌, ◌*◌, ◌-◌, ◌≤◌, ◌<◌}
+-- The loop that puts the texts of records in a row: what is left of their answers, counts and notices has the texts that are left. Assumes
+-- nothing.
+use Prim.Native.Nat.{ℕ, ◌+◌, ◌*◌, ◌≤◌}
 use mathlib.Core.Path.{◌≡◌, refl, sym, ap, ap₂, subst⁻¹, ◌∙◌}
-use mathlib.Core.List.{List, ◌∷◌, ◌++◌}
+use mathlib.Core.List.{List, [], ◌∷◌, ◌++◌}
+use mathlib.Core.Logic.{◌⊎◌}
 use native.Mathlib.Omega.{arith}
-use lib.ListN.{length, take, drop, get_or, length-drop}
-use lib.Seq.{drop-drop, take_all}
-use Rattle.lists.proofs.Find.{drop_part, part_none}
+use lib.ListN.{length, take, drop, length-take, length-drop}
+use Rattle.std.proofs.Common.{inl, inr}
 use Rattle.records.specs.Layout.{record_length}
 use Rattle.tape_text.specs.Numbers.{Puts}
 use Rattle.tape_text.proofs.Putting.{Putting, putting_none, putting_length, putting_room, putting_more, putting_all}
@@ -15,111 +16,86 @@ use Rattle.tape_reader.proofs.Counts.{counted_sound, counted_place}
 use Rattle.tape_output.specs.Stretches.{counted_all}
 use Rattle.tape_player.specs.Noted.{noted_text, noted_texts, sum, Printable}
 
-module _ (reader : Reader) (played : ℕ) (answers counts notices before : List ℕ) where
-  -- the answers and counts that are left after the first i
-  abbrev answers_from : ℕ → List ℕ
-  answers_from i = drop i (take played answers)
+none : (l : List ℕ) → length l ≡ 0 → l ≡ []
+none [] h = refl
+none (x ∷ l) h = absurd (omega (arith, h))
 
-  abbrev counts_from : ℕ → List ℕ
-  counts_from i = drop i (take played counts)
-
+module _ (reader : Reader) (played : ℕ) (answers counts notices : List ℕ) (start : ℕ) (before : List ℕ) where
   abbrev whole : List ℕ
   whole = noted_texts reader.place (take played answers) (take played counts) notices
 
-  pub record Texts (next : Reader) (from stop i : ℕ) (after : List ℕ) : Type 0 where
-    pub asked : Printable reader played answers counts notices before
+  pub record Texts (next : Reader) (as' ns rest : List ℕ) (at : ℕ) (after : List ℕ) : Type 0 where
+    pub room : start + length whole ≤ length before
     pub sound : Sound next
-    pub within : next.place + (played - i) ≤ most_records
-    pub held : from + record_length * sum (counts_from i) ≤ length notices
-    pub counted : counted_all reader (take played answers) ≡ counted_all next (answers_from i)
-    pub put : Putting whole (noted_texts next.place (answers_from i) (counts_from i) (drop from notices)) 0 before after stop
+    pub within : next.place + length as' ≤ most_records
+    pub same : length ns ≡ length as'
+    pub held : record_length * sum ns ≤ length rest
+    pub counted : counted_all reader (take played answers) ≡ counted_all next as'
+    pub put : Putting whole (noted_texts next.place as' ns rest) start before after at
 
-  pub texts_none : Printable reader played answers counts notices before → Texts reader 0 0 0 before
-  texts_none asked =
-      let all : played - 0 ≡ played = omega arith in
+  pub texts_none : Printable reader played answers counts notices (drop start before) → start ≤ length before
+      → (as' ns : List ℕ) → as' ≡ take played answers → ns ≡ take played counts → Texts reader as' ns notices start before
+  texts_none asked inside as' ns e f =
+      let many : length as' ≡ played = omega (arith, ap length e, length-take played answers, asked.answers) in
       record {
-        asked = asked;
+        room = omega (arith, asked.text, length-drop start before, inside);
         sound = asked.sound;
-        within = omega (arith, asked.within);
-        held = omega (arith, asked.notices);
-        counted = refl;
-        put = putting_none whole 0 before;
+        within = omega (arith, asked.within, many);
+        same = omega (arith, many, ap length f, length-take played counts, asked.counts);
+        held = omega (arith, ap sum f, asked.notices);
+        counted = ap (counted_all reader) (sym e);
+        put = rw (e, f) (putting_none whole start before);
       }
 
-  module _ {next : Reader} {from stop i : ℕ} {after : List ℕ} (t : Texts next from stop i after) where
-    room : 0 + length whole ≤ length before
-    room = omega (arith, t.asked.text)
-
+  module _ {next : Reader} {as' ns rest : List ℕ} {at : ℕ} {after : List ℕ} (t : Texts next as' ns rest at after) where
     pub texts_length : length after ≡ length before
-    texts_length = putting_length t.put room
+    texts_length = putting_length t.put t.room
 
-    pub texts_all : played ≤ i → (next ≡ counted_all reader (take played answers)) × Puts 0 before after stop whole
-    texts_all h =
-        let none = part_none answers played i h in (
-          sym (t.counted ∙ ap (counted_all next) none),
-          putting_all t.put room
-              (ap (λ (l : List ℕ). noted_texts next.place l (counts_from i) (drop from notices)) none),
-        )
+    over : (as' ≡ []) ⊎ (ns ≡ []) → as' ≡ []
+    over (inl e) = e
+    over (inr f) = none as' (omega (arith, t.same, ap length f))
+
+    pub texts_all : (as' ≡ []) ⊎ (ns ≡ []) → (next ≡ counted_all reader (take played answers)) × Puts start before after at whole
+    texts_all h = (
+      sym (t.counted ∙ ap (counted_all next) (over h)),
+      putting_all t.put t.room (ap (λ (l : List ℕ). noted_texts next.place l ns rest) (over h)),
+    )
 
     -- ---- one record more
-    module _ (h : i < played) where
-      abbrev answer : ℕ
-      answer = get_or answers i 0
+    module _ (answer n : ℕ) (later others : List ℕ) (e : as' ≡ answer ∷ later) (f : ns ≡ n ∷ others) where
+      sum_next : sum ns ≡ n + sum others
+      sum_next = ap sum f
 
-      abbrev n : ℕ
-      n = get_or counts i 0
+      abbrev text : List ℕ
+      text = noted_text (next.place + 1) answer n rest
 
-      -- its notices, as the code lends them
-      abbrev lent : List ℕ
-      lent = take (length notices - from) (drop from notices)
+      abbrev texts : List ℕ
+      texts = noted_texts (counted next answer).place later others (drop (record_length * n) rest)
 
-      lent_is : lent ≡ drop from notices
-      lent_is = take_all (length notices - from) (drop from notices) (omega (arith, length-drop from notices))
-
-      answers_next : answers_from i ≡ answer ∷ answers_from (i + 1)
-      answers_next = drop_part 0 answers played i t.asked.answers h
-
-      counts_next : counts_from i ≡ n ∷ counts_from (i + 1)
-      counts_next = drop_part 0 counts played i t.asked.counts h
-
-      sum_next : sum (counts_from i) ≡ n + sum (counts_from (i + 1))
-      sum_next = ap sum counts_next
-
-      texts_next : noted_texts next.place (answers_from i) (counts_from i) (drop from notices)
-          ≡ noted_text (next.place + 1) answer n lent
-          ++ noted_texts (counted next answer).place (answers_from (i + 1)) (counts_from (i + 1)) (drop (from + record_length * n) notices)
+      texts_next : noted_texts next.place as' ns rest ≡ text ++ texts
       texts_next =
-          ap₂ (λ (as' ns : List ℕ). noted_texts next.place as' ns (drop from notices)) answers_next counts_next
-          ∙ ap₂ (λ (l m : List ℕ). noted_text (next.place + 1) answer n l
-          ++ noted_texts (next.place + 1) (answers_from (i + 1)) (counts_from (i + 1)) m)
-          (sym lent_is) (drop-drop (record_length * n) from notices)
-          ∙ ap (λ (place : ℕ). noted_text (next.place + 1) answer n lent
-          ++ noted_texts place (answers_from (i + 1)) (counts_from (i + 1)) (drop (from + record_length * n) notices))
-          (sym (counted_place next answer))
+          ap₂ (λ (l m : List ℕ). noted_texts next.place l m rest) e f
+          ∙ ap (λ (place : ℕ). text ++ noted_texts place later others (drop (record_length * n) rest)) (sym (counted_place next answer))
 
-      pub texts_held : from + record_length * n ≤ length notices
+      pub texts_held : record_length * n ≤ length rest
       texts_held = omega (arith, t.held, sum_next)
 
-      pub texts_asks : Within next × (record_length * n ≤ length lent)
-          × (stop + length (noted_text (next.place + 1) answer n lent) ≤ length after)
+      pub texts_asks : Within next × (record_length * n ≤ length rest) × (at + length text ≤ length after)
       texts_asks = (
-        record { sound = t.sound; left = omega (arith, t.within) },
-        omega (arith, ap length lent_is, length-drop from notices, texts_held),
-        putting_room t.put room (noted_text (next.place + 1) answer n lent)
-            (noted_texts (counted next answer).place (answers_from (i + 1)) (counts_from (i + 1)) (drop (from + record_length * n) notices))
-            texts_next,
+        record { sound = t.sound; left = omega (arith, t.within, ap length e) },
+        texts_held,
+        putting_room t.put t.room text texts texts_next,
       )
 
-      pub texts_more : {told : Reader} {to : ℕ} {last : List ℕ} → told ≡ counted next answer
-          → Puts stop after last to (noted_text (next.place + 1) answer n lent)
-          → Texts told (from + record_length * n) to (i + 1) last
-      texts_more {told} {to} {last} on put = subst⁻¹ (λ (r : Reader). Texts r (from + record_length * n) to (i + 1) last) on (record {
-        asked = t.asked;
-        sound = counted_sound next answer t.sound;
-        within = omega (arith, t.within, counted_place next answer);
-        held = omega (arith, t.held, sum_next);
-        counted = t.counted ∙ ap (counted_all next) answers_next;
-        put = putting_more t.put room (noted_text (next.place + 1) answer n lent)
-            (noted_texts (counted next answer).place (answers_from (i + 1)) (counts_from (i + 1)) (drop (from + record_length * n) notices))
-            texts_next put;
-      })
+      pub texts_more : {told : Reader} {behind : List ℕ} {to : ℕ} {last : List ℕ} → told ≡ counted next answer
+          → behind ≡ drop (record_length * n) rest → Puts at after last to text → Texts told later others behind to last
+      texts_more {told} {behind} {to} {last} on left put =
+          subst⁻¹ (λ (r : Reader). Texts r later others behind to last) on (record {
+            room = t.room;
+            sound = counted_sound next answer t.sound;
+            within = omega (arith, t.within, ap length e, counted_place next answer);
+            same = omega (arith, t.same, ap length e, ap length f);
+            held = omega (arith, t.held, sum_next, ap length left, length-drop (record_length * n) rest);
+            counted = t.counted ∙ ap (counted_all next) e;
+            put = rw left (putting_more t.put t.room text texts texts_next put);
+          })

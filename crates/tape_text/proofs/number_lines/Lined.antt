@@ -3,10 +3,10 @@ use Prim.Native.Nat.{ℕ, ◌+◌, ◌≤◌, ◌<◌}
 use mathlib.Core.Path.{◌≡◌, sym, ap}
 use mathlib.Core.List.{List, [], ◌∷◌, ◌++◌}
 use native.Mathlib.Omega.{arith}
-use lib.ListN.{length, drop, set, get_or}
+use lib.ListN.{length, drop, get_or}
 use Rattle.lists.proofs.Find.{drop-first, drop-none}
 use Rattle.tape_text.specs.Numbers.{space, newline, decimal, spaced, Puts}
-use Rattle.tape_text.proofs.Puts.{puts_as, puts_one, room_after_one, puts_after_one}
+use Rattle.tape_text.proofs.Puts.{puts_as, room_then, puts_then}
 use Rattle.tape_text.proofs.Putting.{Putting, putting_none, putting_length, putting_room, putting_more, putting_last}
 
 -- The first i numbers are put.
@@ -36,16 +36,13 @@ module _ {numbers : List ℕ} {start : ℕ} {b c : List ℕ} {at i : ℕ} (l : L
     pub lined_room : at + length (next numbers i) ≤ length c
     lined_room = putting_room l.put room (next numbers i) rest first
 
-    pub lined_number : at + 1 + length (decimal (get_or numbers i 0)) ≤ length (set c at space)
-    lined_number = room_after_one at c space (decimal (get_or numbers i 0)) lined_room
+    -- .. of which the space is put
+    module _ {d : List ℕ} {m : ℕ} (p : Puts at c d m (space ∷ [])) where
+      pub lined_number : m + length (decimal (get_or numbers i 0)) ≤ length d
+      lined_number = room_then p (decimal (get_or numbers i 0)) lined_room
 
-    pub lined_more : {d : List ℕ} {to : ℕ} → Puts (at + 1) (set c at space) d to (decimal (get_or numbers i 0))
-        → Lined numbers start b d to (i + 1)
-    lined_more p =
-        record {
-          put = putting_more l.put room (next numbers i) rest first
-              (puts_after_one at c space (decimal (get_or numbers i 0)) lined_room p);
-        }
+      pub lined_more : {e : List ℕ} {to : ℕ} → Puts m d e to (decimal (get_or numbers i 0)) → Lined numbers start b e to (i + 1)
+      lined_more q = record { put = putting_more l.put room (next numbers i) rest first (puts_then p q lined_room) }
 
   -- the end of the line
   module _ (h : length numbers ≤ i) where
@@ -55,5 +52,5 @@ module _ {numbers : List ℕ} {start : ℕ} {b c : List ℕ} {at i : ℕ} (l : L
     pub lined_inside : at < length c
     lined_inside = omega (arith, putting_room l.put room (newline ∷ []) [] last)
 
-    pub lined_all : Puts start b (set c at newline) (at + 1) (spaced numbers)
-    lined_all = putting_last l.put room (puts_as (sym last) (puts_one at c newline lined_inside))
+    pub lined_all : {d : List ℕ} {to : ℕ} → Puts at c d to (newline ∷ []) → Puts start b d to (spaced numbers)
+    lined_all p = putting_last l.put room (puts_as (sym last) p)

@@ -5,7 +5,7 @@ use mathlib.Core.List.{List, [], ◌∷◌, ◌++◌, append_assoc, append-nil}
 use native.Mathlib.Omega.{arith}
 use lib.ListN.{length, set, length-append}
 use Rattle.tape_text.specs.Numbers.{digit, decimal, Puts}
-use Rattle.tape_text.proofs.Digits.{decimal_some, decimal_one, decimal_more, decimal_longer}
+use Rattle.tape_text.proofs.Digits.{decimal_some, decimal_one, decimal_more, decimal_longer, decimal_short, decimal_long}
 use Rattle.tape_text.proofs.Puts.{puts_none, puts_as, puts_length, puts_before}
 
 -- The last digits are put from `at` on; those of `left` belong before them.
@@ -34,6 +34,13 @@ module _ {n start stop : ℕ} {b c : List ℕ} {left at : ℕ} (f : Filled n sta
 
   pub filled_inside : at ≤ length c
   filled_inside = omega (arith, many, filled_length)
+
+  -- where more than the first place is left, more than one digit is
+  pub filled_long : start + 1 < at → 10 ≤ left
+  filled_long h = decimal_long left (omega (arith, f.place, h))
+
+  pub filled_short : n < 18446744073709551616 → at ≤ start + 1 → left < 10
+  filled_short k h = decimal_short left (omega (arith, f.most, k)) (omega (arith, f.place, h))
 
   -- one digit more
   pub filled_more : 10 ≤ left → n < 18446744073709551616 → Filled n start stop b (set c (at - 1) (digit (left % 10))) (left / 10) (at - 1)

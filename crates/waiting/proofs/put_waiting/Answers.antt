@@ -3,11 +3,10 @@ use Rattle.waiting.specs.Output.{waiting_line}
 use Rattle.waiting.proofs.Line.{line_fits}
 use Rattle.waiting.proofs.put_waiting.Goals as goal
 
-pub put_lettered-requires : goal.put_lettered-requires
+pub lettered-requires : goal.lettered-requires
 unfolding waiting_line
-put_lettered-requires c =
-    line_fits c.args.w c.args.out.now c.requires
+lettered-requires c = line_fits c.args.w _ _ c.requires
 
-pub returns : goal.returns
+pub returns-clause-puts : goal.returns-clause-puts
 unfolding waiting_line
-returns c = c.put_lettered.ensures
+returns-clause-puts c = c.lettered.ensures.puts

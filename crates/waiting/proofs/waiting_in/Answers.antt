@@ -2,6 +2,6 @@
 use Rattle.waiting.proofs.Line.{shown_put}
 use Rattle.waiting.proofs.waiting_in.Goals as goal
 
-pub returns : goal.returns
-returns c =
-    shown_put _ _ _ c.played-b.ensures c.waiting_orders-shown.ensures c.put_waiting.ensures
+pub returns-clause-puts : goal.returns-clause-puts
+returns-clause-puts c =
+    shown_put _ _ _ c.played-b.ensures c.waiting_orders.ensures c.put_waiting.ensures.puts

@@ -28,42 +28,21 @@ held-init c =
       sum = refl;
     }
 
-pub offset_bounds-b-i : goal.offset_bounds-b-i
-offset_bounds-b-i c = omega arith
+pub returns-then-file-last : goal.returns-then-file-last
+returns-then-file-last c =
+    file_not_rising c.held.invariant past c.held-test.true (omega (arith, c.if-file-last.true))
 
-pub bounds-b-i : goal.bounds-b-i
-bounds-b-i c = omega arith
-
-pub returns-then-premise-last : goal.returns-then-premise-last
-returns-then-premise-last c =
-    file_not_rising c.held.invariant past c.held-test.true (omega (arith, c.if-premise-last.true))
-
-pub offset_bounds-b-i-in-held : goal.offset_bounds-b-i-in-held
-offset_bounds-b-i-in-held c = omega arith
-
-pub bounds-b-i-in-held : goal.bounds-b-i-in-held
-bounds-b-i-in-held c = omega arith
-
-pub returns-then-not-test : goal.returns-then-not-test
-returns-then-not-test c =
-    file_not_kept c.held.invariant past c.held-test.true c.file_kept-test.ensures c.if-not-test.true
+pub returns-in_default : goal.returns-in_default
+returns-in_default c = file_not_kept c.held.invariant past c.held-test.true c.file_kept.ensures c.in_default.is
 
 pub overflow_add-waiting : goal.overflow_add-waiting
 overflow_add-waiting c =
-    let v = file_passes c.held.invariant past c.held-test.true c.file_kept-test.ensures
-    (omega (arith, c.if-premise-last.false)) c.if-not-test.false in
+    let v = file_passes c.held.invariant past c.held-test.true c.file_kept.ensures (omega (arith, c.if-file-last.false)) c.in-Some.is in
     record { fits = waiting_fits v }
-
-pub overflow_add-i : goal.overflow_add-i
-overflow_add-i c = omega arith
-
-pub held-smaller : goal.held-smaller
-held-smaller c = omega arith
 
 pub held-preserved : goal.held-preserved
 held-preserved c =
-    file_passes c.held.invariant past c.held-test.true c.file_kept-test.ensures
-    (omega (arith, c.if-premise-last.false)) c.if-not-test.false
+    file_passes c.held.invariant past c.held-test.true c.file_kept.ensures (omega (arith, c.if-file-last.false)) c.in-Some.is
 
 pub returns-then-packed-waiting : goal.returns-then-packed-waiting
 returns-then-packed-waiting c =
@@ -76,19 +55,10 @@ unused-init c =
     (record { review = omega (arith, g); permit = omega (arith, g); dated = omega (arith, g); cancel = omega (arith, g) })
     c.if-packed-waiting.false
 
-pub offset_bounds-b-i-in-unused : goal.offset_bounds-b-i-in-unused
-offset_bounds-b-i-in-unused c = omega arith
-
-pub bounds-b-i-in-unused : goal.bounds-b-i-in-unused
-bounds-b-i-in-unused c = omega arith
-
 pub returns-then-not-file_blank : goal.returns-then-not-file_blank
 returns-then-not-file_blank c =
     place_not_blank c.unused.invariant _ (omega (arith, c.unused-test.true))
     (sym c.file_blank.ensures ∙ c.if-not-file_blank.true)
-
-pub overflow_add-i-in-unused : goal.overflow_add-i-in-unused
-overflow_add-i-in-unused c = omega arith
 
 pub unused-smaller : goal.unused-smaller
 unused-smaller c = omega arith

@@ -9,6 +9,6 @@ returns c =
     λ i. record {
       today = c.args.today;
       count = 0;
-      waiting = c.nothing-nothing.ensures i;
+      waiting = c.nothing-waiting.ensures i;
       files = replicate most_files (c.blank_file-none.ensures i);
     }

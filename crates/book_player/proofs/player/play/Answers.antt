@@ -1,26 +1,28 @@
-use Prim.Native.Nat.{◌+◌, ◌*◌, ◌-◌, ◌≤◌, ◌<◌}
-use mathlib.Core.Path.{refl, sym, ◌∙◌}
+use Prim.Native.Nat.{◌*◌, ◌-◌, ◌≤◌}
+use mathlib.Core.Path.{refl, sym, ap, ◌∙◌}
 use native.Mathlib.Omega.{arith}
-use lib.ListN.{length, get_or, take, drop}
-use Rattle.days.specs.Window.{most_width}
+use lib.Dec.{ltb}
+use lib.ListN.{length, take, drop}
+use borrow.Author.Rules.{rules}
+use Rattle.std.proofs.lemmas.List.Sorted.{IsPartitionPoint-from_clause}
+use Rattle.lists.specs.Search.{any_of}
 use Rattle.records.specs.Layout.{record_length}
-use Rattle.book.specs.Book.{most_files}
+use Rattle.premise.specs.declared.File.{File}
+use Rattle.premise.specs.Orders.{is_open}
+use Rattle.book.specs.Book.{files_of}
 use Rattle.book.specs.Calls.{notice_bytes}
 use Rattle.book_files.proofs.Tidy.{past}
-use Rattle.book_player.proofs.Closing.{close_more}
-use Rattle.book_player.proofs.Marking.{mark_none}
-use Rattle.book_player.proofs.MarkTurns.{mark_place, mark_tidy, mark_width, mark_window, mark_room, mark_moves, mark_more}
-use Rattle.book_player.proofs.MarkTurns.{mark_still}
-use Rattle.book_player.proofs.Opening.{open_more}
+use Rattle.book_player.proofs.Marking.{mark_none, marking_as}
+use Rattle.book_player.proofs.MarkTurns.{mark_tidy, mark_width, mark_window, mark_room, mark_moves, mark_more, mark_still}
 use Rattle.book_player.specs.Tasks.{Known}
 use Rattle.book_player.proofs.Tasks.{task_known}
-use Rattle.book_player.proofs.Ways.{Standing, Made, made_as, well_kept, by_refusal, by_file, by_marks, by_opening, by_open_order, by_closing, held_place, close_place, held_asks, held_moves}
-use Rattle.book_player.proofs.Ways.{day_asks, opening, closed_tidy, closing}
+use Rattle.book_player.proofs.Ways.{Standing, Made, made_as, well_kept, by_refusal, by_file, by_marks, by_opening, by_open_order, by_closing, held_place, close_place, close_held, held_asks, held_moves}
+use Rattle.book_player.proofs.Ways.{day_asks, closed_tidy}
 use Rattle.book_player.proofs.Playing.{playing_none, standing, plays_most, plays_all, plays_room}
-use Rattle.book_player.proofs.Playing.{sent_more, sent_few, playing_more}
-use Rattle.book_player.proofs.Seeking.{seek_none, seek_end, seek_more, seek_here}
+use Rattle.book_player.proofs.Playing.{sent_few, playing_more}
+use Rattle.book_player.proofs.Seeking.{halves, reads, sought}
 use Rattle.book_player.proofs.player.play.Goals as goal
-use Rattle.book_player.proofs.player.play.Goals.{in-Refused, in-OnFile, in-NextDay+else-loop-place-test, in-Opens+else-loop-place-2-test, in-Closes+then-any_open, in-Closes+else-any_open+else-loop-freed-test, else-loop-at-test, then-loop-at-test+then-wanted-there, After-premise_in-wanted, After-task_of-task, Joined-task, Else-notices-sent-lt-NOTICE_BYTES, In-loop-freed, In-loop-place, In-loop-place-2}
+use Rattle.book_player.proofs.player.play.Goals.{in-Refused, in-OnFile, in-NextDay+else-loop-place-test, in-Opens, in-Closes+then-any_open, in-Closes+else-any_open, then-mark_changes_file, else-mark_changes_file, After-premise_in-wanted, After-task_of-task, Joined-task, Else-notices-sent-lt-NOTICE_BYTES}
 
 pub loop-played-init : goal.loop-played-init
 loop-played-init c =
@@ -43,13 +45,14 @@ told : (k : After-task_of-task)
     k.task_of-task.result
 told k =
     let v = standing k.loop-played.invariant k.loop-played-test.true k.if-tape-from.false (omega (arith, k.if-notices-sent-lt-NOTICE_BYTES.false)) in
-    let tidy = (well_kept v).tidy in
+    let fs = files_of k.loop-played.c in
+    let wanted = k.premise_in-wanted.result in
+    let at = k.partition_point-at.result in
+    let point = IsPartitionPoint-from_clause (λ (f : File). ltb f.premise wanted) fs at k.partition_point-at.ensures.partitioned
+    (halves wanted k.loop-played.c (well_kept v)) (λ a r f q. search rules) in
+    let read = reads fs at k.map_or-there.result k.get.result k.get.ensures.lookup k.map_or-there.ensures (λ x e. search rules) in
     task_known _ _ v.kept k.read_record-reading.ensures k.premise_in-wanted.ensures
-    (elim k.loop-at-test.branch [
-      | else-loop-at-test w ↦ seek_end tidy k.loop-at.invariant w.loop-at-test.false w.there-is
-      | then-loop-at-test+then-wanted-there w ↦ seek_here tidy k.loop-at.invariant w.loop-at-test.true w.if-wanted-there.true w.there-is
-    ])
-    k.task_of-task.ensures
+    (sought wanted k.loop-played.c at k.map_or-there.result k.partition_point-at.ensures.bound point read) k.task_of-task.ensures
 
 -- its call is made, by one of the six ways
 made : (x : Joined-task)
@@ -64,42 +67,43 @@ made x known =
       | in-Refused w ↦ made_as (λ i. record { answer = w.last-is i; sent = w.sent-is i; book = w.c-is i; buffer = w.notices-is i })
           (by_refusal v _ known w.in-Refused.is)
       | in-OnFile w ↦ made_as (λ i. record { answer = w.last-is i; sent = w.sent-is i; book = w.c-is i; buffer = w.notices-is i })
-          (by_file v _ known w.in-OnFile.is _ w.on_file-p.result w.on_file-p.ensures w.moved-c.ensures)
+          (rw (w.notices-1.given.1.1 (sym w.on_file-last.ensures.sends.same_buffer))
+          (by_file v _ known w.in-OnFile.is _ w.on_file-last.ensures.file_after w.on_file-last.ensures.answered w.on_file-last.ensures.sends.wrote w.moved-c.ensures))
       | in-NextDay+else-loop-place-test w ↦ made_as (λ i. record { answer = w.last-is i; sent = w.sent-is i; book = w.c-is i; buffer = w.notices-is i })
           (by_marks v _ known w.in-NextDay.is w.loop-place.invariant w.loop-place-test.false)
-      | in-Opens+else-loop-place-2-test w ↦ made_as (λ i. record { answer = w.last-is i; sent = w.sent-is i; book = w.c-is i; buffer = w.notices-is i })
-          (by_opening v _ known w.in-Opens.is w.new_file-carry.ensures w.loop-place-2.invariant w.loop-place-2-test.false)
+      | in-Opens w ↦ made_as (λ i. record { answer = w.last-is i; sent = w.sent-is i; book = w.c-is i; buffer = w.notices-is i })
+          (by_opening v _ known w.in-Opens.is w.new_file.ensures w.copy_within.ensures.after)
       | in-Closes+then-any_open w ↦ made_as (λ i. record { answer = w.last-is i; sent = w.sent-is i; book = w.c-is i; buffer = w.notices-is i })
-          (by_open_order v _ known w.in-Closes.is (sym w.any_open.ensures ∙ w.if-any_open.true))
-      | in-Closes+else-any_open+else-loop-freed-test w ↦ made_as (λ i. record { answer = w.last-is i; sent = w.sent-is i; book = w.c-is i; buffer = w.notices-is i })
-          (by_closing v _ known w.in-Closes.is (sym w.any_open.ensures ∙ w.if-any_open.false) w.loop-freed.invariant w.loop-freed-test.false
-          w.blank_file-none.ensures)
+          (by_open_order v _ known w.in-Closes.is (ap (any_of is_open) (sym w.held.ensures) ∙ sym w.any_open.ensures ∙ w.if-any_open.true))
+      | in-Closes+else-any_open w ↦ made_as (λ i. record { answer = w.last-is i; sent = w.sent-is i; book = w.c-is i; buffer = w.notices-is i })
+          (by_closing v _ known w.in-Closes.is (ap (any_of is_open) (sym w.held.ensures) ∙ sym w.any_open.ensures ∙ w.if-any_open.false)
+          w.copy_within-else-any_open.ensures.after w.blank_file.ensures)
     ]
 
 -- ---- its premise is looked for
-pub loop-at-init : goal.loop-at-init
-loop-at-init c = seek_none _ _
-
--- the file at the place reached stands in the book
-pub offset_bounds-c-at : goal.offset_bounds-c-at
-offset_bounds-c-at c =
-    let few : c.loop-at.at < most_files = omega (arith, c.loop-at-test.true, (well_kept (stands (goal.at.offset_bounds-c-at c).After-premise_in-wanted)).tidy.few) in
-    omega arith
-
-pub bounds-c-at : goal.bounds-c-at
-bounds-c-at c = omega (arith, c.loop-at-test.true, (well_kept (stands (goal.at.bounds-c-at c).After-premise_in-wanted)).tidy.few)
-
-pub overflow_add-at : goal.overflow_add-at
-overflow_add-at c = omega (arith, c.loop-at-test.true, (well_kept (stands (goal.at.overflow_add-at c).After-premise_in-wanted)).tidy.few)
-
-pub loop-at-preserved : goal.loop-at-preserved
-loop-at-preserved c =
-    seek_more (well_kept (stands (goal.at.loop-at-preserved c).After-premise_in-wanted)).tidy c.loop-at.invariant c.loop-at-test.true c.if-wanted-there.false
+pub shared_ref_as_front-held : goal.shared_ref_as_front-held
+shared_ref_as_front-held c = omega (arith, (well_kept (stands (goal.at.shared_ref_as_front-held c).After-premise_in-wanted)).tidy.few)
 
 pub task_of-task-requires : goal.task_of-task-requires
 task_of-task-requires c = (well_kept (stands (goal.at.task_of-task-requires c).After-premise_in-wanted)).today
 
 -- ---- its premise is held
+pub offset_bounds-c-at : goal.offset_bounds-c-at
+offset_bounds-c-at c =
+    let g = goal.at.offset_bounds-c-at c in
+    omega (arith, held_place (stands g.After-premise_in-wanted) _ (told g.After-task_of-task) c.in-OnFile.is)
+
+pub bounds-c-at : goal.bounds-c-at
+bounds-c-at c =
+    let g = goal.at.bounds-c-at c in
+    omega (arith, held_place (stands g.After-premise_in-wanted) _ (told g.After-task_of-task) c.in-OnFile.is)
+
+pub on_file-last-requires : goal.on_file-last-requires
+on_file-last-requires c =
+    let g = goal.at.on_file-last-requires c in
+    let all = held_asks (stands g.After-premise_in-wanted) _ (told g.After-task_of-task) c.in-OnFile.is _ in
+    record { on_file = record { tidy = all.0; room = all.1 }; stays_held = all.2 }
+
 pub offset_bounds-c-at-in-OnFile : goal.offset_bounds-c-at-in-OnFile
 offset_bounds-c-at-in-OnFile c =
     let g = goal.at.offset_bounds-c-at-in-OnFile c in
@@ -110,15 +114,11 @@ bounds-c-at-in-OnFile c =
     let g = goal.at.bounds-c-at-in-OnFile c in
     omega (arith, held_place (stands g.After-premise_in-wanted) _ (told g.After-task_of-task) c.in-OnFile.is)
 
-pub on_file-p-requires : goal.on_file-p-requires
-on_file-p-requires c =
-    let both = held_asks (stands (goal.at.on_file-p-requires c).After-premise_in-wanted) _ (told (goal.at.on_file-p-requires c).After-task_of-task) c.in-OnFile.is _ in
-    record { on_file = both.0; stays_held = both.1 }
-
 pub moved-c-requires : goal.moved-c-requires
 moved-c-requires c =
-    held_moves (stands (goal.at.moved-c-requires c).After-premise_in-wanted) _ (told (goal.at.moved-c-requires c).After-task_of-task) c.in-OnFile.is c.args.calendar.now
-    c.on_file-p.result c.on_file-p.ensures
+    let g = goal.at.moved-c-requires c in
+    held_moves (stands g.After-premise_in-wanted) _ (told g.After-task_of-task) c.in-OnFile.is c.args.calendar.now
+    c.on_file-last.ensures.file_after
 
 pub offset_bounds-c-at-in-OnFile-2 : goal.offset_bounds-c-at-in-OnFile-2
 offset_bounds-c-at-in-OnFile-2 c =
@@ -135,31 +135,20 @@ pub loop-place-init : goal.loop-place-init
 loop-place-init c =
     mark_none _ _ _ _ _ (day_asks (stands (goal.at.loop-place-init c).After-premise_in-wanted) _ _)
 
--- the file at the place reached stands in the book
-marks-within : (i : In-loop-place)
-    → i.loop-place.place < most_files
-marks-within i = mark_place i.loop-place.invariant i.loop-place-test.true
-
--- its window has one of the widths of which the last days are known
-marks-width : (k : In-loop-place)
-    → (let l = k.loop-place in
-    let width = (get_or l.c.files l.place past).window in
-    (1 ≤ width) × (width ≤ most_width))
-marks-width k = mark_width k.loop-place.invariant k.loop-place-test.true
-
+-- the file's window has one of the widths of which the last days are known
 pub overflow_sub-end : goal.overflow_sub-end
 overflow_sub-end c = omega (arith, (mark_width c.loop-place.invariant c.loop-place-test.true).0)
 
-pub bounds-ends-f : goal.bounds-ends-f
-bounds-ends-f c =
+pub bounds-ends-file : goal.bounds-ends-file
+bounds-ends-file c =
     let width = mark_width c.loop-place.invariant c.loop-place-test.true in
     omega (arith, width.0, width.1)
 
 pub mark_changes_file-requires : goal.mark_changes_file-requires
 mark_changes_file-requires c = mark_tidy c.loop-place.invariant c.loop-place-test.true
 
-pub mark-m-requires : goal.mark-m-requires
-mark-m-requires c =
+pub mark-requires : goal.mark-requires
+mark-requires c =
     record {
       tidy = mark_tidy c.loop-place.invariant c.loop-place-test.true;
       room = omega (arith, mark_room c.loop-place.invariant c.loop-place-test.true);
@@ -168,31 +157,21 @@ mark-m-requires c =
 
 pub moved-c-requires-then-mark_changes_file : goal.moved-c-requires-then-mark_changes_file
 moved-c-requires-then-mark_changes_file c =
-    mark_moves c.loop-place.invariant c.loop-place-test.true c.mark-m.result c.mark-m.ensures
-
-pub loop-place-preserved-then-mark_changes_file : goal.loop-place-preserved-then-mark_changes_file
-loop-place-preserved-then-mark_changes_file c =
-    mark_more c.loop-place.invariant c.loop-place-test.true c.mark-m.result c.mark-m.ensures c.moved-c-then-mark_changes_file.ensures
+    mark_moves c.loop-place.invariant c.loop-place-test.true c.mark.ensures.file_after
 
 pub loop-place-preserved : goal.loop-place-preserved
 loop-place-preserved c =
-    mark_still c.loop-place.invariant c.loop-place-test.true _ c.is_business_day-business.ensures
-    (mark_window c.loop-place.invariant c.loop-place-test.true _ c.last_days-ends.ensures) c.mark_changes_file.ensures c.if-mark_changes_file.false
+    let m = c.loop-place.invariant in
+    let more = c.loop-place-test.true in
+    elim c.if-mark_changes_file.branch [
+      | then-mark_changes_file w ↦ marking_as w.sent-is w.c-is w.notices-is
+          (rw (w.notices-then-mark_changes_file-1.given.1.1 (sym w.mark.ensures.sends.same_buffer)) (mark_more m more w.mark.ensures.file_after w.mark.ensures.sends.wrote w.moved-c-then-mark_changes_file.ensures))
+      | else-mark_changes_file w ↦ marking_as w.sent-is w.c-is w.notices-is
+          (mark_still m more _ c.is_business_day-business.ensures (mark_window m more _ c.last_days-ends.ensures) c.mark_changes_file.ensures
+          w.if-mark_changes_file.false)
+    ]
 
--- ---- it opens a place
-pub loop-place-2-init : goal.loop-place-2-init
-loop-place-2-init c =
-    opening (stands (goal.at.loop-place-2-init c).After-premise_in-wanted) _ (told (goal.at.loop-place-2-init c).After-task_of-task) c.in-Opens.is _
-
--- the place reached is one of the book's
-opens-within : (i : In-loop-place-2)
-    → i.loop-place-2.place < most_files
-opens-within i = omega (arith, i.loop-place-2-test.true, i.loop-place-2.invariant.free)
-
-pub loop-place-2-preserved : goal.loop-place-2-preserved
-loop-place-2-preserved c = open_more c.loop-place-2.invariant c.loop-place-2-test.true
-
--- ---- it closes one
+-- ---- it closes a place
 pub offset_bounds-c-at-in-Closes : goal.offset_bounds-c-at-in-Closes
 offset_bounds-c-at-in-Closes c =
     let g = goal.at.offset_bounds-c-at-in-Closes c in
@@ -203,37 +182,22 @@ bounds-c-at-in-Closes c =
     let g = goal.at.bounds-c-at-in-Closes c in
     omega (arith, close_place (stands g.After-premise_in-wanted) _ (told g.After-task_of-task) c.in-Closes.is)
 
-pub any_open-requires : goal.any_open-requires
-any_open-requires c =
-    closed_tidy (stands (goal.at.any_open-requires c).After-premise_in-wanted) _ (told (goal.at.any_open-requires c).After-task_of-task) c.in-Closes.is
+pub held-requires : goal.held-requires
+held-requires c =
+    let g = goal.at.held-requires c in
+    closed_tidy (stands g.After-premise_in-wanted) _ (told g.After-task_of-task) c.in-Closes.is
 
 pub overflow_sub-left : goal.overflow_sub-left
 overflow_sub-left c =
     let g = goal.at.overflow_sub-left c in
-    omega (arith, (closing (stands g.After-premise_in-wanted) _ (told g.After-task_of-task) c.in-Closes.is).within)
+    omega (arith, close_held (stands g.After-premise_in-wanted) _ (told g.After-task_of-task) c.in-Closes.is)
 
-pub loop-freed-init : goal.loop-freed-init
-loop-freed-init c =
-    closing (stands (goal.at.loop-freed-init c).After-premise_in-wanted) _ (told (goal.at.loop-freed-init c).After-task_of-task) c.in-Closes.is
-
--- a file stands behind the place that is free now
-closes-within : (i : In-loop-freed)
-    → i.loop-freed.freed + 1 < most_files
-closes-within i = omega (arith, i.loop-freed-test.true, i.loop-freed.invariant.tidy.few)
-
-pub loop-freed-preserved : goal.loop-freed-preserved
-loop-freed-preserved c = close_more c.loop-freed.invariant c.loop-freed-test.true refl
+pub copy_within-requires-else-any_open-clause-start_le_end : goal.copy_within-requires-else-any_open-clause-start_le_end
+copy_within-requires-else-any_open-clause-start_le_end c =
+    let g = goal.at.copy_within-requires-else-any_open-clause-start_le_end c in
+    omega (arith, close_held (stands g.After-premise_in-wanted) _ (told g.After-task_of-task) c.in-Closes.is)
 
 -- ---- it is noted
-pub overflow_sub-counts : goal.overflow_sub-counts
-overflow_sub-counts c =
-    let g = goal.at.overflow_sub-counts c in
-    omega (
-      arith,
-      sent_more c.loop-played.invariant c.loop-played-test.true c.if-tape-from.false (room_left g.Else-notices-sent-lt-NOTICE_BYTES) c.record_end-to.result
-          (made g.Joined-task (told g.After-task_of-task)),
-    )
-
 pub overflow_cast-counts : goal.overflow_cast-counts
 overflow_cast-counts c =
     let g = goal.at.overflow_cast-counts c in

@@ -1,20 +1,21 @@
--- `esi_directory::search::number_of` meets its contract: each answer's number is the definition's.
-use mathlib.Core.Path.{sym, ap}
+-- The number of a refusal is that of its variant, and 0 stands for a premise number found.
+use Rattle.std.proofs.Common.{◌≡◌, refl, ap, sym, ◌∙◌, ◌+◌, Err}
+use denote.Enum.Declared.{tag_of}
+use Rattle.esi_rules.specs.contracts.Refusal as refusals
+use Rattle.esi_rules.specs.declared.Refusal.{Refusal}
+use Rattle.esi_rules.specs.declared.Refusal.TheVariants.{DirectoryUnsound, TextMalformed, NoRecord}
 use Rattle.esi_rules.specs.LookUp.{number}
 use Rattle.esi_directory.proofs.search.number_of.Goals as goal
 
-pub returns-in-Found : goal.returns-in-Found
+pub returns-in-Ok : goal.returns-in-Ok
 unfolding number
-returns-in-Found c = sym (ap number c.in-Found.is)
+returns-in-Ok c = sym (ap number c.in-Ok.is)
 
-pub returns-in-DirectoryUnsound : goal.returns-in-DirectoryUnsound
+numbered : (refusal : Refusal) → tag_of refusals.the_type refusal + 20 ≡ number (Err refusal)
 unfolding number
-returns-in-DirectoryUnsound c = sym (ap number c.in-DirectoryUnsound.is)
+numbered DirectoryUnsound = refl
+numbered TextMalformed = refl
+numbered NoRecord = refl
 
-pub returns-in-TextMalformed : goal.returns-in-TextMalformed
-unfolding number
-returns-in-TextMalformed c = sym (ap number c.in-TextMalformed.is)
-
-pub returns-in-NoRecord : goal.returns-in-NoRecord
-unfolding number
-returns-in-NoRecord c = sym (ap number c.in-NoRecord.is)
+pub returns-in-Err : goal.returns-in-Err
+returns-in-Err c = numbered c.in-Err.refusal ∙ sym (ap number c.in-Err.is)

@@ -1,51 +1,20 @@
-use Prim.Native.Nat.{◌+◌}
-use mathlib.Core.Path.{refl, sym, ◌∙◌}
-use native.Mathlib.Omega.{arith}
-use lib.ListN.{drop}
-use Rattle.records.proofs.Fields.{bytes_each}
-use Rattle.esi_rules.specs.Directory.{records}
-use Rattle.esi_rules.specs.Keys.{clashes}
-use Rattle.esi_rules.proofs.Rows.{records_at, records_none}
-use Rattle.esi_rules.proofs.Distinctness.{distinct_miss, distinct_next, distinct_end}
-use Rattle.esi_rules.proofs.KeyLaws.{any_clash, all_kept, either_twice}
+use Rattle.std.proofs.Common.{◌≡◌, List, [], ◌∷◌, length, refl, sym, ap₂, ◌∙◌, rules, arith}
+use Rattle.lists.specs.Search.{any_of}
+use Rattle.esi_rules.specs.Keys.{has_either, clashes}
+use Rattle.esi_rules.proofs.Distinctness.{distinct_miss, distinct_end}
 use Rattle.esi_directory.proofs.soundness.none_twice.Goals as goal
 
-pub loop-at-init : goal.loop-at-init
-loop-at-init c = (omega arith, refl)
-
-pub key_at-key-requires : goal.key_at-key-requires
-key_at-key-requires c = omega arith
-
-pub premise_at-premise-requires : goal.premise_at-premise-requires
-premise_at-premise-requires c = omega arith
-
-pub stands_from-requires : goal.stands_from-requires
-stands_from-requires c = omega arith
-
-pub returns-then-stands_from : goal.returns-then-stands_from
-returns-then-stands_from c =
-    let d = c.args.directory.now in
-    let k = records_at d c.loop-at.at (omega arith) in
+pub returns-then-stands_in : goal.returns-then-stands_in
+returns-then-stands_in c =
     let found =
-    any_clash d c.loop-at.at (records (drop (c.loop-at.at + 24) d)) c.key_at-key.ensures c.premise_at-premise.ensures
-    c.stands_from.ensures in
-    let kept = all_kept d (bytes_each d (λ i. omega (arith, c.shared_slice_known-1.given i))) c.requires in
-    sym (sym (either_twice (records d) kept) ∙ sym c.loop-at.invariant.1 ∙ distinct_miss clashes k (found ∙ c.if-stands_from.true))
+    ap₂ (λ key premise. any_of (has_either key premise) c.in-Some.later.now) (sym c.key_of.ensures) (sym c.premise_of.ensures)
+    ∙ sym c.stands_in.ensures
+    ∙ c.if-stands_in.true in
+    sym (sym c.loop-first.invariant ∙ distinct_miss clashes (search rules) found)
 
-pub loop-at-smaller : goal.loop-at-smaller
-loop-at-smaller c = omega arith
-
-pub loop-at-preserved : goal.loop-at-preserved
-loop-at-preserved c =
-    let d = c.args.directory.now in
-    let k = records_at d c.loop-at.at (omega arith) in
-    let found =
-    any_clash d c.loop-at.at (records (drop (c.loop-at.at + 24) d)) c.key_at-key.ensures c.premise_at-premise.ensures
-    c.stands_from.ensures in
-    (omega arith, sym (distinct_next clashes k (found ∙ c.if-stands_from.false)) ∙ c.loop-at.invariant.1)
+none_left : {A : Type 0} (xs : List A) → length xs ≡ 0 → xs ≡ []
+none_left [] e = refl
+none_left (x ∷ xs) e = absurd (omega (arith, e))
 
 pub returns : goal.returns
-returns c =
-    let d = c.args.directory.now in
-    let kept = all_kept d (bytes_each d (λ i. omega (arith, c.shared_slice_known-1.given i))) c.requires in
-    sym (sym (either_twice (records d) kept) ∙ sym c.loop-at.invariant.1 ∙ distinct_end clashes (records_none d c.loop-at.at (omega arith)))
+returns c = sym (sym c.loop-first.invariant ∙ distinct_end clashes (none_left c.loop-first.left.now c.in_default.ensures.cases))

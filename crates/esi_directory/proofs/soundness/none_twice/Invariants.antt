@@ -1,17 +1,11 @@
--- `esi_directory::soundness::none_twice` meets its contract. The loop's invariant: the test of the records left gives what the test of all
--- gives, by
--- keys; and those of records that break no rule say which ESI ID they are of. The measure is the bytes left.
-use Prim.Native.Nat.{◌-◌, ◌≤◌}
-use mathlib.Core.Path.{◌≡◌}
-use lib.ListN.{length, drop}
+-- The test of the records left gives what the test of all gives.
+use Rattle.std.proofs.Common.{◌≡◌, length}
 use Rattle.esi_rules.specs.Distinct.{distinct}
-use Rattle.esi_rules.specs.Directory.{records}
 use Rattle.esi_rules.specs.Keys.{clashes}
 use Rattle.esi_directory.proofs.soundness.none_twice.Given as goal
 
-abbrev pub invariant-loop-at : goal.invariant-loop-at
-invariant-loop-at l =
-    (l.at ≤ length l.directory) × (distinct clashes (records (drop l.at l.directory)) ≡ distinct clashes (records l.directory))
+abbrev pub invariant-loop-first : goal.invariant-loop-first
+invariant-loop-first l = distinct clashes l.left ≡ distinct clashes l.records
 
-abbrev pub decreases-loop-at : goal.decreases-loop-at
-decreases-loop-at l = length l.directory - l.at
+abbrev pub decreases-loop-first : goal.decreases-loop-first
+decreases-loop-first l = length l.left

@@ -1,6 +1,5 @@
 use Prim.Native.Nat.{ℕ, ◌-◌}
 use mathlib.Core.Path.{◌≡◌, refl, sym, ap₂, ◌∙◌}
-use borrow.Author.Rules.{rules}
 use native.Mathlib.Omega.{arith}
 use lib.ListN.{length-map}
 use Rattle.lists.proofs.Over.{over_start}
@@ -11,28 +10,13 @@ use Rattle.esi_rules.specs.Keys.{key_bytes}
 use Rattle.esi_rules.proofs.TextLaws.{text_id, zeros, packed_turn, packed_last}
 use Rattle.esi_directory.proofs.texts.packed_text.Goals as goal
 
-pub loop-i-init : goal.loop-i-init
-loop-i-init c = (omega arith, sym (over_start 0 (key_bytes (digits_of c.args.text.now)) zeros 0 refl))
+pub loop-place-init : goal.loop-place-init
+loop-place-init c = sym (over_start 0 (key_bytes (digits_of c.args.text.now)) zeros 0 refl)
 
-pub half_at-requires : goal.half_at-requires
-half_at-requires c = c.requires
-
-pub half_at-requires-in-loop-i : goal.half_at-requires-in-loop-i
-half_at-requires-in-loop-i c = c.requires
-
-pub pack_pair-requires : goal.pack_pair-requires
-pack_pair-requires c = (c.half_at.ensures.1, c.half_at-in-loop-i.ensures.1)
-
-pub loop-i-smaller : goal.loop-i-smaller
-loop-i-smaller c = omega arith
-
-pub loop-i-preserved : goal.loop-i-preserved
-loop-i-preserved c =
-    let v = c.loop-i.invariant in (
-      search rules,
-      packed_turn (digits_of c.args.text.now) (text_id c.args.text.now c.requires) c.loop-i.i (omega arith) v.1 _
-          (c.pack_pair.ensures ∙ ap₂ pair c.half_at.ensures.0 c.half_at-in-loop-i.ensures.0),
-    )
+pub loop-place-preserved : goal.loop-place-preserved
+loop-place-preserved c =
+    packed_turn (digits_of c.args.text.now) (text_id c.args.text.now c.requires) c.loop-place.place (omega arith) c.loop-place.invariant _
+    (c.pack_pair.ensures ∙ ap₂ pair c.half_at.ensures.0 c.half_at-in-loop-place.ensures.0)
 
 pub overflow_cast-bytes : goal.overflow_cast-bytes
 overflow_cast-bytes c =
@@ -40,7 +24,6 @@ overflow_cast-bytes c =
 
 pub returns : goal.returns
 returns c =
-    let v = c.loop-i.invariant in
-    let all : c.loop-i.i ≡ id_width = omega arith in
-    packed_last (digits_of c.args.text.now) (text_id c.args.text.now c.requires) (rw all at v.1) _
+    let all : c.loop-place.place ≡ id_width = omega arith in
+    packed_last (digits_of c.args.text.now) (text_id c.args.text.now c.requires) (rw all at c.loop-place.invariant) _
     (sym (length-map c.args.text.now (λ (byte : ℕ). byte - 48)))

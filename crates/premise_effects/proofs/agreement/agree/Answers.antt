@@ -3,30 +3,29 @@
 use Rattle.premise_effects.proofs.agreement.Agreed.{delete_room, delete_done, request_room, response_room, establish_done}
 use Rattle.premise_effects.proofs.agreement.agree.Goals as goal
 
-pub send_on_agreement-sent-requires : goal.send_on_agreement-sent-requires
-send_on_agreement-sent-requires c =
+pub send-requires : goal.send-requires
+send-requires c =
     let a = c.args in
-    delete_room a.file a.r a.standing a.buffer.now c.requires c.if-r-eq-DELETE.true
+    delete_room a.file.now a.r _ c.notice_of_no_order-response.ensures a.out.now c.requires c.if-r-eq-DELETE.true
 
 pub returns-then-r-eq-DELETE : goal.returns-then-r-eq-DELETE
 returns-then-r-eq-DELETE c =
     let a = c.args in
-    delete_done a.file a.r a.standing a.buffer.now c.requires c.if-r-eq-DELETE.true _ c.send_on_agreement-sent.result
-    c.send_on_agreement-sent.ensures
+    delete_done a.file.now a.r _ c.notice_of_no_order-response.ensures a.out.now c.requires c.if-r-eq-DELETE.true c.send.ensures
 
-pub tell_earlier_holder-told-requires : goal.tell_earlier_holder-told-requires
-tell_earlier_holder-told-requires c =
+pub tell_earlier_holder-requires : goal.tell_earlier_holder-requires
+tell_earlier_holder-requires c =
     let a = c.args in
-    request_room a.file a.r a.standing a.buffer.now c.requires c.if-r-eq-DELETE.false
+    request_room a.file.now a.r _ c.notice_of_no_order-response.ensures a.out.now c.requires c.if-r-eq-DELETE.false
 
-pub send_on_agreement-sent-requires-2 : goal.send_on_agreement-sent-requires-2
-send_on_agreement-sent-requires-2 c =
+pub send-requires-else-r-eq-DELETE : goal.send-requires-else-r-eq-DELETE
+send-requires-else-r-eq-DELETE c =
     let a = c.args in
-    response_room a.file a.r a.standing a.buffer.now c.requires c.if-r-eq-DELETE.false _ c.tell_earlier_holder-told.result
-    c.tell_earlier_holder-told.ensures
+    response_room a.file.now a.r _ c.notice_of_no_order-response.ensures a.out.now c.requires c.if-r-eq-DELETE.false
+    c.tell_earlier_holder.ensures
 
-pub returns : goal.returns
-returns c =
+pub returns-else-r-eq-DELETE : goal.returns-else-r-eq-DELETE
+returns-else-r-eq-DELETE c =
     let a = c.args in
-    establish_done a.file a.r a.standing a.buffer.now c.requires c.if-r-eq-DELETE.false _ c.tell_earlier_holder-told.result
-    c.tell_earlier_holder-told.ensures _ c.send_on_agreement-sent-2.result c.send_on_agreement-sent-2.ensures
+    establish_done a.file.now a.r _ c.notice_of_no_order-response.ensures a.out.now c.requires c.if-r-eq-DELETE.false
+    c.tell_earlier_holder.ensures c.send-else-r-eq-DELETE.ensures

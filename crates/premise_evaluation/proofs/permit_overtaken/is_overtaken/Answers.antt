@@ -1,16 +1,13 @@
--- `is_overtaken` meets its contract: what the order says by itself picks the case of `is_overtaken`.
 use mathlib.Core.Path.{sym, ◌∙◌}
-use Rattle.premise.specs.Orders.{held}
-use Rattle.premise_evaluation.proofs.permit_overtaken.Overtaken.{overtaken_none, overtaken_any}
+use borrow.Author.Rules.{rules}
+use Rattle.lists.proofs.Chains.{any_is}
+use Rattle.premise.specs.Orders.{blank}
+use Rattle.premise.specs.Evaluation.{overtakes, is_overtaken}
 use Rattle.premise_evaluation.proofs.permit_overtaken.is_overtaken.Goals as goal
 
-pub returns-then-not-awaits_permit : goal.returns-then-not-awaits_permit
-returns-then-not-awaits_permit c =
+pub returns-then-awaits_permit : goal.returns-then-awaits_permit
+unfolding is_overtaken
+returns-then-awaits_permit c =
     let a = c.args in
-    overtaken_none a.today (held a.file) a.o (sym c.awaits_permit.ensures ∙ c.if-not-awaits_permit.true)
-
-pub returns : goal.returns
-returns c =
-    let a = c.args in
-    c.any_overtakes.ensures
-    ∙ overtaken_any a.today (held a.file) a.o (sym c.awaits_permit.ensures ∙ c.if-not-awaits_permit.false)
+    let waits = sym c.awaits_permit.ensures ∙ c.if-awaits_permit.true in
+    rw waits (any_is (overtakes a.today a.o.requested) a.orders.now blank _ (search rules) (search rules))

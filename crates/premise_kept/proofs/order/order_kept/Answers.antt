@@ -4,4 +4,4 @@ use Rattle.premise_kept.proofs.order.order_kept.Goals as goal
 
 pub returns : goal.returns
 returns c =
-    fields_kept_lem c.args.o _ _ c.day_fits.ensures c.pending_fits.ensures
+    fields_kept_lem c.args.o.now _ _ c.day_fits.ensures c.pending_fits.ensures

@@ -2,15 +2,15 @@
 -- does at all. The measure is the orders left.
 use Prim.Native.Nat.{◌≤◌, ◌-◌}
 use mathlib.Core.Path.{◌≡◌}
-use lib.ListN.{drop}
+use lib.ListN.{length, drop}
 use Rattle.lists.specs.Search.{any_of}
-use Rattle.premise.specs.Orders.{held}
 use Rattle.premise.specs.FirstIn.{stands_in_way}
 use Rattle.premise_rows.proofs.first_in.not_first_in.Given as goal
 
 abbrev pub invariant-orders : goal.invariant-orders
 invariant-orders l =
-    (l.i ≤ l.n) × (any_of (stands_in_way l.new l.requested) (drop l.i (held l.file)) ≡ any_of (stands_in_way l.new l.requested) (held l.file))
+    let in_way = stands_in_way l.new l.requested in
+    (l.i ≤ length l.orders) × (any_of in_way (drop l.i l.orders) ≡ any_of in_way l.orders)
 
 abbrev pub decreases-orders : goal.decreases-orders
-decreases-orders l = l.n - l.i
+decreases-orders l = length l.orders - l.i

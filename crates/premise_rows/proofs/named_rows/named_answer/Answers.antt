@@ -8,28 +8,28 @@ use Rattle.premise_rows.proofs.named_rows.named_answer.Goals as goal
 pub returns-then-r-o : goal.returns-then-r-o
 returns-then-r-o c =
     let a = c.args in
-    answer_foreign (up_to a.last) a.r _ _ (at_held a.file a.i c.requires.1) c.if-r-o.true
+    answer_foreign (up_to a.last) a.r _ _ (at_held a.file.now a.i c.requires.1) c.if-r-o.true
 
 pub returns-then-not-is_taken : goal.returns-then-not-is_taken
 returns-then-not-is_taken c =
     let a = c.args in
-    answer_untaken (up_to a.last) a.r _ _ (at_held a.file a.i c.requires.1) c.if-r-o.false
+    answer_untaken (up_to a.last) a.r _ _ (at_held a.file.now a.i c.requires.1) c.if-r-o.false
     (sym c.is_taken.ensures ∙ c.if-not-is_taken.true)
 
 pub returns-then-r-o-2 : goal.returns-then-r-o-2
 returns-then-r-o-2 c =
     let a = c.args in
-    answer_not_above (up_to a.last) a.r _ _ (at_held a.file a.i c.requires.1) c.if-r-o.false
+    answer_not_above (up_to a.last) a.r _ _ (at_held a.file.now a.i c.requires.1) c.if-r-o.false
     (sym c.is_taken.ensures ∙ c.if-not-is_taken.false) c.if-r-o-2.true
 
 pub returns-then-r-o-3 : goal.returns-then-r-o-3
 returns-then-r-o-3 c =
     let a = c.args in
-    answer_too_late (up_to a.last) a.r _ _ (at_held a.file a.i c.requires.1) c.if-r-o.false
+    answer_too_late (up_to a.last) a.r _ _ (at_held a.file.now a.i c.requires.1) c.if-r-o.false
     (sym c.is_taken.ensures ∙ c.if-not-is_taken.false) c.if-r-o-2.false c.if-r-o-3.true
 
 pub returns : goal.returns
 returns c =
     let a = c.args in
-    answer_accepted (up_to a.last) a.r _ _ (at_held a.file a.i c.requires.1) c.if-r-o.false
+    answer_accepted (up_to a.last) a.r _ _ (at_held a.file.now a.i c.requires.1) c.if-r-o.false
     (sym c.is_taken.ensures ∙ c.if-not-is_taken.false) c.if-r-o-2.false c.if-r-o-3.false

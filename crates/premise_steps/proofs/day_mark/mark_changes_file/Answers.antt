@@ -1,72 +1,30 @@
+-- `mark_changes_file` meets its contract: some order is changed by the clock or by the evaluation.
 use Prim.Native.Nat.{ℕ}
-use mathlib.Core.Path.{◌≡◌, refl, sym, ap₂, ◌∙◌}
-use mathlib.Core.Bool.{Bool, false, ◌||◌}
-use lib.ListN.{get_or}
+use mathlib.Core.Path.{◌∙◌}
+use mathlib.Core.Bool.{Bool, ◌||◌}
+use borrow.Author.Tests.{tests}
+use Rattle.std.proofs.Common.{rules}
+use Rattle.std.proofs.lemmas.Iterator.{YieldsList-from_slice}
+use Rattle.std.proofs.lemmas.Iterator.Consumers.{YieldsList-from_enumerate}
+use Rattle.std.proofs.lemmas.Iterator.Search.{any_from_yields_List}
+use Rattle.days.specs.Window.{up_to}
 use Rattle.premise.specs.declared.Order.{Order}
-use Rattle.premise.specs.Orders.{blank, held}
-use Rattle.premise_laws.specs.Changes.{clock_changes, mark_changes_order}
-use Rattle.premise_laws.proofs.ChangesOrder.{changes_due}
-use Rattle.premise_laws.proofs.MarkChanges.{mark_changes_clock}
-use Rattle.premise_laws.proofs.ByPlace.{at_hit, at_next, at_end}
+use Rattle.premise.specs.Orders.{held}
+use Rattle.premise.specs.Evaluation.{is_due}
+use Rattle.premise_laws.specs.Changes.{clock_changes, any_at}
 use Rattle.premise_evaluation.specs.Ousting.{ousts}
-use Rattle.premise_evaluation.proofs.Ousted.{changes_ousted, changes_none, none_ousts}
+use Rattle.premise_evaluation.proofs.Ousted.{mark_asked}
+use Rattle.premise_evaluation.proofs.PlaceTests.{by_enumerated}
 use Rattle.premise_steps.proofs.day_mark.mark_changes_file.Goals as goal
-use Rattle.premise_steps.proofs.day_mark.mark_changes_file.Goals.{Else-clock_changes_order, At-held}
-
--- the test, as the loop over the orders has it
-abbrev test : At-held → ℕ → Order → Bool
-test l =
-    let a = l.args in
-    mark_changes_order a.business a.today a.last a.file.agreement (held a.file)
-
-pub held-init : goal.held-init
-held-init c = refl
-
-pub returns-then-clock_changes_order : goal.returns-then-clock_changes_order
-returns-then-clock_changes_order c =
-    at_hit (test (goal.at.returns-then-clock_changes_order c).At-held) c.args.file c.requires c.held.i c.held.invariant c.held-test.true
-    (mark_changes_clock _ _ _ _ _ _ _ (sym c.clock_changes_order.ensures ∙ c.if-clock_changes_order.true))
-
--- the clock leaves the order
-unclocked : (e : Else-clock_changes_order) → let a = e.args in
-    clock_changes a.business a.today (get_or a.file.orders e.held.i blank) ≡ false
-unclocked e = sym e.clock_changes_order.ensures ∙ e.if-clock_changes_order.false
-
-pub returns-then-is_due : goal.returns-then-is_due
-returns-then-is_due c =
-    at_hit (test (goal.at.returns-then-is_due c).At-held) c.args.file c.requires c.held.i c.held.invariant c.held-test.true
-    (ap₂ ◌||◌ (unclocked (goal.at.returns-then-is_due c).Else-clock_changes_order) (sym (changes_due _ _ _ _ _ _ (sym c.is_due.ensures ∙ c.if-is_due.true))))
-
-pub others-init : goal.others-init
-others-init c = refl
-
-pub held-preserved-in-others : goal.held-preserved-in-others
-held-preserved-in-others c =
-    at_next (test (goal.at.held-preserved-in-others c).At-held) c.args.file c.requires c.held.i c.held.invariant c.held-test.true
-    (ap₂ ◌||◌ (unclocked (goal.at.held-preserved-in-others c).Else-clock_changes_order) (changes_none c.args.today c.args.last c.args.file c.requires c.held.i c.held-test.true
-    (sym c.is_due.ensures ∙ c.if-is_due.false)
-    (sym (at_end (ousts c.args.today c.args.last c.held.i _) c.args.file c.requires c.others.j c.others.invariant
-    c.others-test.false))))
-
-pub returns-then-ousts : goal.returns-then-ousts
-returns-then-ousts c =
-    at_hit (test (goal.at.returns-then-ousts c).At-held) c.args.file c.requires c.held.i c.held.invariant c.held-test.true
-    (ap₂ ◌||◌ (unclocked (goal.at.returns-then-ousts c).Else-clock_changes_order) (changes_ousted c.args.today c.args.last c.args.file c.requires c.held.i c.held-test.true
-    (sym (at_hit (ousts c.args.today c.args.last c.held.i _) c.args.file c.requires c.others.j c.others.invariant
-    c.others-test.true (sym c.ousts.ensures ∙ c.if-ousts.true)))))
-
-pub others-preserved : goal.others-preserved
-others-preserved c =
-    at_next (ousts c.args.today c.args.last c.held.i _) c.args.file c.requires c.others.j c.others.invariant
-    c.others-test.true (sym c.ousts.ensures ∙ c.if-ousts.false)
-
-pub held-preserved : goal.held-preserved
-held-preserved c =
-    at_next (test (goal.at.held-preserved c).At-held) c.args.file c.requires c.held.i c.held.invariant c.held-test.true
-    (ap₂ ◌||◌ (unclocked (goal.at.held-preserved c).Else-clock_changes_order) (changes_none c.args.today c.args.last c.args.file c.requires c.held.i c.held-test.true
-    (sym c.is_due.ensures ∙ c.if-is_due.false)
-    (none_ousts c.args.today c.args.last (held c.args.file) c.held.i _ (sym c.may_be_ousted.ensures ∙ c.if-may_be_ousted.false))))
 
 pub returns : goal.returns
 returns c =
-    at_end (test (goal.at.returns c).At-held) c.args.file c.requires c.held.i c.held.invariant c.held-test.false
+    let a = c.args in
+    let os = held a.file.now in
+    let by : ℕ → Order → Bool =
+    λ (i : ℕ) (o : Order). clock_changes a.business a.today o
+    || (is_due (up_to a.last) a.file.now.agreement o || any_at (ousts a.today a.last i o) 0 os) in
+    by_enumerated by os
+    (any_from_yields_List (λ (e : ℕ × Order). by e.0 e.1) _ _ c.any.result c.any.ensures.ran
+    (YieldsList-from_enumerate (YieldsList-from_slice os cc) cc) (λ x b q k. search (rules, tests)))
+    ∙ mark_asked a.business a.today a.last a.file.now

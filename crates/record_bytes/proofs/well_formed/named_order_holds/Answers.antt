@@ -23,7 +23,6 @@ returns-in-5-to-6 c = sym (formed_undated _ (omega arith) (omega arith))
 pub returns-in_default : goal.returns-in_default
 returns-in_default c =
     let fields = c.args.fields in
-    let fields = c.args.fields in
     let last : fields.kind ≡ kind_reply =
     elim c.in_default.branch [ in_default-via-then-kind-lt4 w ↦ omega arith | in_default-via-else-kind-lt4+else-kind-lt7 w ↦ omega arith ] in
     rw (formed_at kind_reply fields last) refl

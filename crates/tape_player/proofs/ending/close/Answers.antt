@@ -1,18 +1,16 @@
 -- `close` meets its contract: a record is left, the end finds no room, or it is put.
 use Rattle.tape_player.proofs.ending.Closing.{closes_before, closes_short, closes_all}
 use Rattle.tape_player.proofs.ending.close.Goals as goal
+use Rattle.tape_player.proofs.ending.close.Goals.{then-p-tape-via-then-p-tape, then-p-tape-via-else-p-tape+then-text-lt-MOST_ENDING}
 
-pub returns-then-out-stop-ge-MOST_ENDING : goal.returns-then-out-stop-ge-MOST_ENDING
-returns-then-out-stop-ge-MOST_ENDING c =
-    let a = c.args in
-    closes_all a.p a.tape.now a.stop a.out.now c.if-tape-reader.true c.if-out-stop-ge-MOST_ENDING.true c.put_ending-end.ensures
+pub returns-then-p-tape-clause-plays : goal.returns-then-p-tape-clause-plays
+returns-then-p-tape-clause-plays c =
+    elim c.then-p-tape.branch [
+      | then-p-tape-via-then-p-tape w ↦ closes_before _ _ _ _ c.requires.1 w.if-p-tape.true
+      | then-p-tape-via-else-p-tape+then-text-lt-MOST_ENDING w ↦
+          closes_short _ _ _ _ w.if-p-tape.false w.if-text-lt-MOST_ENDING.true
+    ]
 
-pub returns-else-out-stop-ge-MOST_ENDING : goal.returns-else-out-stop-ge-MOST_ENDING
-returns-else-out-stop-ge-MOST_ENDING c =
-    let a = c.args in
-    closes_short a.p a.tape.now a.stop a.out.now c.if-tape-reader.true c.if-out-stop-ge-MOST_ENDING.false
-
-pub returns-else-tape-reader : goal.returns-else-tape-reader
-returns-else-tape-reader c =
-    let a = c.args in
-    closes_before a.p a.tape.now a.stop a.out.now c.requires.1 c.if-tape-reader.false
+pub returns-clause-plays : goal.returns-clause-plays
+returns-clause-plays c =
+    closes_all _ _ _ _ c.if-p-tape.false c.if-text-lt-MOST_ENDING.false c.put_ending.ensures.puts

@@ -1,39 +1,32 @@
+use Rattle.std.proofs.Common.{◌≤◌, ◌∙◌, refl, length-take}
 use native.Mathlib.Omega.{arith}
-use Rattle.tape_player.proofs.ending.Filed.{filed_none, filed_length, filed_room, filed_more, filed_last, filed_all}
+use Rattle.book.specs.Book.{most_files}
+use Rattle.book.proofs.Kept.{book_kept_means}
+use Rattle.tape_output.specs.declared.Playing.{Playing}
+use Rattle.tape_output.specs.Stretches.{Ready}
+use Rattle.tape_player.proofs.ending.Filed.{filed_none, filed_more, filed_all}
 use Rattle.tape_player.proofs.ending.put_ending.Goals as goal
 
-pub loop-i-init : goal.loop-i-init
-loop-i-init c =
-    filed_none c.args.p c.args.start c.args.out.now c.requires.0 c.requires.1
+few : (p : Playing) → Ready p → p.book.count ≤ most_files
+few p ready = ((book_kept_means p.book).0 ready.kept).tidy.few
 
-pub offset_bounds-b-i : goal.offset_bounds-b-i
-offset_bounds-b-i c = omega arith
+pub shared_ref_as_front-file-items : goal.shared_ref_as_front-file-items
+shared_ref_as_front-file-items c = few c.args.p.now c.requires.0
 
-pub bounds-b-i : goal.bounds-b-i
-bounds-b-i c = omega arith
+pub offset_bounds-file-items-file-index : goal.offset_bounds-file-items-file-index
+offset_bounds-file-items-file-index c =
+    let b = c.args.p.now.book in
+    omega (arith, length-take b.count b.files, few c.args.p.now c.requires.0)
 
-pub put_file-at-requires : goal.put_file-at-requires
-put_file-at-requires c =
-    filed_room c.loop-i.invariant c.loop-i-test.true
+pub loop-file-init : goal.loop-file-init
+loop-file-init c = record { filed = filed_none c.args.p.now _ _ c.requires.0 c.requires.1; same_buffer = refl }
 
-pub overflow_add-i : goal.overflow_add-i
-overflow_add-i c = omega arith
+pub loop-file-preserved : goal.loop-file-preserved
+loop-file-preserved c =
+    let v = c.loop-file.invariant in record {
+      filed = filed_more v.filed c.loop-file-test.true c.file.ensures.puts;
+      same_buffer = c.file.ensures.same_buffer ∙ v.same_buffer;
+    }
 
-pub loop-i-smaller : goal.loop-i-smaller
-loop-i-smaller c = omega arith
-
-pub loop-i-preserved : goal.loop-i-preserved
-loop-i-preserved c =
-    filed_more c.loop-i.invariant c.loop-i-test.true c.put_file-at.ensures
-
-pub put_total-requires : goal.put_total-requires
-put_total-requires c =
-    filed_last c.loop-i.invariant c.loop-i-test.false
-
-pub shape_of-out : goal.shape_of-out
-shape_of-out c =
-    omega (arith, filed_length c.loop-i.invariant, c.put_total.auto)
-
-pub returns : goal.returns
-returns c =
-    filed_all c.loop-i.invariant c.loop-i-test.false c.put_total.ensures
+pub returns-clause-puts : goal.returns-clause-puts
+returns-clause-puts c = filed_all c.loop-file.invariant.filed c.loop-file-test.false c.total.ensures.puts

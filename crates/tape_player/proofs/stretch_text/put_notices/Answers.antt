@@ -1,43 +1,29 @@
 use native.Mathlib.Omega.{arith}
-use lib.ListN.{length-take, length-drop}
-use Rattle.tape_player.proofs.stretch_text.Listed.{listed_none, listed_length, listed_room, listed_more, listed_all}
+use Rattle.std.proofs.Common.{◌∙◌, rules}
+use Rattle.tape_player.proofs.stretch_text.Listed.{listed_none, listed_room, listed_more}
 use Rattle.tape_player.proofs.stretch_text.put_notices.Goals as goal
 
-pub loop-i-init : goal.loop-i-init
-loop-i-init c =
-    let a = c.args in
-    listed_none a.notices.now a.n a.start a.out.now c.requires.1
+pub loop-notice-init : goal.loop-notice-init
+loop-notice-init c = record {
+  can = search rules;
+  finite = tt;
+  size = search rules;
+  same_buffer = search rules;
+  listed = listed_none _ _ _ _ _ c.requires.0 c.requires.1 (grind arith);
+}
 
-pub overflow_mul-from : goal.overflow_mul-from
-overflow_mul-from c = omega arith
+pub notice-requires-clause-bytes_in_bounds : goal.notice-requires-clause-bytes_in_bounds
+notice-requires-clause-bytes_in_bounds c =
+    let s = rw c.in-Some.is at c.next.ensures.steps in
+    listed_room c.loop-notice.invariant.listed _ _ s.1.0 (s.1.1 ∙ c.loop-notice.invariant.size)
 
-pub overflow_add-to : goal.overflow_add-to
-overflow_add-to c = omega arith
-
-pub slice_bounds-put_notice-count : goal.slice_bounds-put_notice-count
-slice_bounds-put_notice-count c = omega arith
-
-pub slice_bounds-put_notice-start : goal.slice_bounds-put_notice-start
-slice_bounds-put_notice-start c = omega arith
-
-pub slice_bounds-put_notice-end : goal.slice_bounds-put_notice-end
-slice_bounds-put_notice-end c = omega arith
-
-pub put_notice-at-requires : goal.put_notice-at-requires
-put_notice-at-requires c = record { record_length_in_bounds = simp (length-take, length-drop) (omega arith); bytes_in_bounds = listed_room c.loop-i.invariant c.loop-i-test.true }
-
-pub overflow_add-i : goal.overflow_add-i
-overflow_add-i c = omega arith
-
-pub loop-i-smaller : goal.loop-i-smaller
-loop-i-smaller c = omega arith
-
-pub loop-i-preserved : goal.loop-i-preserved
-loop-i-preserved c =
-    listed_more c.loop-i.invariant c.loop-i-test.true c.put_notice-at.ensures
-
-pub shape_of-out : goal.shape_of-out
-shape_of-out c = listed_length c.loop-i.invariant
-
-pub returns : goal.returns
-returns c = listed_all c.loop-i.invariant c.loop-i-test.false
+pub loop-notice-preserved : goal.loop-notice-preserved
+loop-notice-preserved c =
+    let s = rw c.in-Some.is at c.next.ensures.steps in
+    let v = c.loop-notice.invariant in record {
+      can = search rules;
+      finite = tt;
+      size = s.0 ∙ v.size;
+      same_buffer = c.notice.ensures.same_buffer ∙ v.same_buffer;
+      listed = listed_more v.listed _ _ s.1.0 (s.1.1 ∙ v.size) c.notice.ensures.puts;
+    }

@@ -1,2 +1,0 @@
-pub mod GivesWay
-pub mod SwitchOfDay

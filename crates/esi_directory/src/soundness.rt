@@ -73,7 +73,8 @@ fn stands_in(records: &[Record], key: Key, premise: u64) -> bool
     records.iter().any(|other| keys::key_of(other) == key || keys::premise_of(other) == premise)
 }
 
-// Whether no first twelve bytes and no premise number stand twice. Of records that are kept the first twelve bytes say which ESI ID each has.
+// Whether no first twelve bytes and no premise number stand twice. Of records that are kept the first twelve
+// bytes say which ESI ID each has.
 fn none_twice(records: &[Record]) -> bool
     ensures { result ≡ distinct clashes records.now }
 {
@@ -87,8 +88,8 @@ fn none_twice(records: &[Record]) -> bool
     true
 }
 
-// Whether the directory breaks no rule and its length is a multiple of 24. In a function of its own the comparisons keep what they compare in
-// registers.
+// Whether the directory breaks no rule and its length is a multiple of 24. In a function of its own the
+// comparisons keep what they compare in registers.
 #[inline(never)]
 pub fn is_sound(directory: &[u8]) -> bool
     ensures { result ≡ sound directory.now }

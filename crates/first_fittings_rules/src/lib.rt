@@ -3,8 +3,8 @@
 // Only lengths and the last four bytes of our records are judged, so that a tape goes through whatever its records say.
 #![tactic(auto)]
 
-// Why a tape is refused, and the number that says so. A tape that is converted has the count of the bytes written in its place: 0 to say, and
-// `Ok` here.
+// Why a tape is refused, and the number that says so. A tape that is converted has the count of the bytes
+// written in its place: 0 to say, and `Ok` here.
 #[derive(Debug, Clone, Copy, PartialEq, Eq)]
 pub enum Refusal {
     // the input is no whole number of records

@@ -2,8 +2,8 @@
 // specs/, with its theorems; their proofs and the laws that the code cites in proofs/. The code stands in `tape_agreement`.
 #![tactic(auto)]
 
-// What comparing our tape with another says: yes, or no with a number. (No Result: a no is an answer like the yes, and nothing is left undone
-// with it.)
+// What comparing our tape with another says: yes, or no with a number. (No Result: a no is an answer like the
+// yes, and nothing is left undone with it.)
 #[derive(Debug, Clone, Copy, PartialEq, Eq)]
 pub enum Agreement {
     // Yes: every premise has the same on both.

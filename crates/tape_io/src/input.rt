@@ -18,8 +18,8 @@ impl From<Cut> for io::Error {
     }
 }
 
-// Reads until the buffer is full, the input ends or a read fails; how many bytes came. Input may come in pieces: how long each is the reader
-// says, so that no `for` counts them.
+// Reads until the buffer is full, the input ends or a read fails; how many bytes came. Input may come in
+// pieces: how long each is the reader says, so that no `for` counts them.
 pub fn fill<R: Read>(reader: &mut R, buffer: &mut [u8]) -> Result<usize, Cut>
     ensures { MatchResult result (λ n. n ≤ length buffer.new)
         (λ cut. cut.count ≤ length buffer.new) }

@@ -22,11 +22,13 @@ fn read_named(rt: &HostRuntime, i: usize, buffer: &mut [u8]) -> io::Result<usize
 {
     let mut path = [0u8; tape_io::WORD_BYTES];
     let n = tape_io::word(rt, i, &mut path);
-    let read = tape_io::fill_from(rt, &path[..n], buffer);
-    if let Err(error) = read {
-        complain(rt, &path[..n], error);
+    match tape_io::fill_from(rt, &path[..n], buffer) {
+        Ok(bytes) => Ok(bytes),
+        Err(cut) => {
+            complain(rt, &path[..n], cut.error);
+            Err(cut.error)
+        }
     }
-    read
 }
 
 // Writes the line with the name of the file that an argument names. Whether it is taken it doesn't ask: the tape's text comes behind it.

@@ -1,5 +1,5 @@
 // The programs' reading, from files and from standard input.
-ghost use Rattle.std.specs.Prelude.{◌≤◌, length, IfOk, MatchResult};
+ghost use Rattle.std.specs.Prelude.{◌≤◌, length, MatchResult};
 
 use std::io::{ErrorKind, Read};
 use std::rt::Files;
@@ -43,13 +43,14 @@ pub fn open<R: Files>(files: &R, path: &[u8]) -> io::Result<R::File> {
     }
 }
 
-// Reads the first bytes of a file; how many came. An absent one counts as empty.
-pub fn fill_from(files: &impl Files, path: &[u8], buffer: &mut [u8]) -> io::Result<usize>
-    ensures { IfOk result (λ n. n ≤ length buffer.new) }
+// Reads the first bytes of a file; how many came. An absent one counts as empty. One that can't be opened gave none.
+pub fn fill_from(files: &impl Files, path: &[u8], buffer: &mut [u8]) -> Result<usize, Cut>
+    ensures { MatchResult result (λ n. n ≤ length buffer.new)
+        (λ cut. cut.count ≤ length buffer.new) }
 {
     match open(files, path) {
-        Ok(mut file) => Ok(fill(&mut file, buffer)?),
+        Ok(mut file) => fill(&mut file, buffer),
         Err(error) if error.kind() == ErrorKind::NotFound => Ok(0),
-        Err(error) => Err(error),
+        Err(error) => Err(Cut { count: 0, error }),
     }
 }

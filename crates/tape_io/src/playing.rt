@@ -1,5 +1,5 @@
 // A tape played from its bytes, and its text written to standard output. The work stands in `tape_player`, which is handed bytes.
-ghost use Rattle.std.specs.Prelude.{◌≡◌, take};
+ghost use Rattle.std.specs.Prelude.{◌≡◌, ◌≤◌, length, take};
 ghost use Rattle.tape_output.specs.Output.{calendar_most, tape_most};
 
 use std::io;
@@ -32,11 +32,12 @@ fn bytes_played(tape: &[u8]) -> &[u8]
     &tape[..tape.len().min(TAPE_BYTES)]
 }
 
-// Plays the first bytes of a tape by the first of a calendar and writes its text to standard output, stretch by stretch, until a write
-// fails. It asks nothing: the buffers are its own, and a longer calendar or tape is cut here and not by who calls it.
-pub fn play<P: Player>(rt: &impl Print, calendar: &[u8], tape: &[u8]) -> io::Result<()> {
-    let days = days_read(calendar);
-    let records = bytes_played(tape);
+// Plays a tape by a calendar, neither longer than what counts of it, and writes its text to standard output, stretch by stretch, until a
+// write fails.
+fn play_in<P: Player>(rt: &impl Print, days: &[u8], records: &[u8]) -> io::Result<()>
+    requires calendar_len_bound { length days.now ≤ calendar_most }
+    requires tape_len_bound { length records.now ≤ tape_most }
+{
     let mut answers = [0u8; STRETCH_RECORDS];
     let mut counts = [0u16; STRETCH_RECORDS];
     let mut notices = [0u8; STRETCH_NOTICES];
@@ -58,4 +59,12 @@ pub fn play<P: Player>(rt: &impl Print, calendar: &[u8], tape: &[u8]) -> io::Res
         }
         p = stretch.playing;
     }
+}
+
+// Plays the first bytes of a tape by the first of a calendar and writes its text to standard output, until a write fails. It asks nothing:
+// the buffers are its own, and a longer calendar or tape is cut here and not by who calls it.
+pub fn play<P: Player>(rt: &impl Print, calendar: &[u8], tape: &[u8]) -> io::Result<()> {
+    let days = days_read(calendar);
+    let records = bytes_played(tape);
+    play_in::<P>(rt, days, records)
 }

@@ -59,12 +59,12 @@ pub fn with_tape<F: FnOnce(&[u8], &[u8])>(rt: &HostRuntime, program: &[u8], play
     let mut calendar = [0u8; CALENDAR_BYTES];
     let days = match fill_from(rt, b"calendar.bin", &mut calendar) {
         Ok(days) => days,
-        Err(error) => {
+        Err(cut) => {
             complain(
                 rt,
                 program,
                 b": cannot read calendar.bin in the current folder",
-                error,
+                cut.error,
                 b": nothing was played; make it a readable file, or remove it to play with an empty calendar\n",
             );
             return;

@@ -2,7 +2,7 @@
 use Rattle.std.proofs.Common.{◌-◌}
 use Rattle.tape_reader.specs.Counts.{most_records}
 use Rattle.tape_io.proofs.playing.Stretches.{Between}
-use Rattle.tape_io.proofs.playing.play.Given as goal
+use Rattle.tape_io.proofs.playing.play_in.Given as goal
 
 abbrev pub invariant-loop-p : goal.invariant-loop-p
 invariant-loop-p g l =

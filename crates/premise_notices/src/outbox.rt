@@ -27,12 +27,20 @@ impl<'a> Outbox<'a> {
         self.sent += 1;
     }
 
+    // Sends a notice on an order to an addressee, under any number, also under one that no code has.
+    pub fn tell_number(&mut self, number: u8, premise: u64, addressee: u64, o: Order)
+        requires { RoomIn self.old (notice number premise addressee o ∷ []) }
+        ensures { Sends self.old self.new (notice number premise addressee o ∷ []) }
+    {
+        self.send(notice_on(number, premise, addressee, o));
+    }
+
     // Sends a notice on an order to an addressee.
     pub fn tell(&mut self, code: NoticeCode, premise: u64, addressee: u64, o: Order)
         requires { RoomIn self.old (notice (code_number code) premise addressee o ∷ []) }
         ensures { Sends self.old self.new (notice (code_number code) premise addressee o ∷ []) }
     {
-        self.send(notice_on(code.number(), premise, addressee, o));
+        self.tell_number(code.number(), premise, addressee, o);
     }
 
     // Sends an order's notice 5, the cancellation, to an addressee.

@@ -53,13 +53,14 @@ fn print<P: Print>(
 
 // Reads one call, makes it and prints its lines; whether one came.
 fn play_one(rt: &HostRuntime, lines: &mut Lines<HostRuntime>, place: u64) -> Result<bool, Fault> {
-    let Some(book) = take_book(rt)? else {
-        return Ok(false);
-    };
+    // Before the first way out: made behind it, they would be filled with zeros twice.
     let mut calendar = [0u8; LONGEST_CALENDAR];
     let mut tape = [0u8; LONGEST_STRETCH];
     let mut answers = [0u8; LONGEST_ANSWERS];
     let mut notices = [0u8; LONGEST_NOTICES];
+    let Some(book) = take_book(rt)? else {
+        return Ok(false);
+    };
     let calendar = take_part(rt, &mut calendar)?;
     let tape = take_part(rt, &mut tape)?;
     let answers = take_room(rt, &mut answers)?;

@@ -9,9 +9,10 @@ mod input;
 mod lines;
 mod playing;
 
+pub use book_bytes::BOOK_BYTES;
 pub use fault::Fault;
 pub use input::{take_book, take_part, take_room};
-pub use lines::Lines;
+pub use lines::{Lines, TEXT_BYTES};
 pub use playing::play_all;
 
 // What lent buffers are filled with, so that a byte that was written shows.

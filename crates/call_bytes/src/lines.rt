@@ -8,7 +8,7 @@ use premise::{File, Order};
 use records::{Notice, RECORD_LENGTH};
 
 // The length of a text that lines are gathered in.
-const TEXT_BYTES: usize = 16_384;
+pub const TEXT_BYTES: usize = 16_384;
 
 // What is kept free for a line: the longest of 12 numbers has 254 bytes.
 const LINE_BYTES: usize = 256;

@@ -29,12 +29,13 @@ fn print<P: Print>(lines: &mut Lines<P>, place: u64, reply: &Reply, buffer: &[u8
 
 // Reads one call, makes it and prints its lines; whether one came.
 fn play_one(rt: &HostRuntime, lines: &mut Lines<HostRuntime>, place: u64) -> Result<bool, Fault> {
-    let Some(book) = take_book(rt)? else {
-        return Ok(false);
-    };
+    // Before the first way out: made behind it, they would be filled with zeros twice.
     let mut calendar = [0u8; LONGEST_CALENDAR];
     let mut bytes = [0u8; LONGEST_RECORD];
     let mut buffer = [0u8; LONGEST_BUFFER];
+    let Some(book) = take_book(rt)? else {
+        return Ok(false);
+    };
     let calendar = take_part(rt, &mut calendar)?;
     let bytes = take_part(rt, &mut bytes)?;
     let buffer = take_room(rt, &mut buffer)?;

@@ -6,7 +6,7 @@ use mathlib.Core.Bool.{Bool, true, false, not, cond}
 use native.Mathlib.Nat.{mul_comm, div-lt_iff_lt-mul, le-div_iff_mul-le}
 use native.Mathlib.Omega.{arith}
 use lib.Dec.{eqb, ltb}
-use lib.ListN.{length, drop}
+use lib.ListN.{length, drop, length-append}
 use borrow.Author.Tests.{eq-eqb, ne_eqb, lt-ltb, le-ltb}
 use Rattle.lists.specs.Search.{any_of}
 use Rattle.std.specs.Prelude.{Ok, Err}
@@ -14,7 +14,7 @@ use Rattle.first_fittings_rules.specs.declared.Refusal.{Refusal}
 use Rattle.first_fittings_rules.specs.declared.Refusal.TheVariants.{NotWhole, ShortBuffer, LastBytesUsed}
 use Rattle.first_fittings_rules.specs.Layout.{records_of}
 use Rattle.first_fittings_rules.specs.Answers.{Answer, number, written, row, first_row}
-use Rattle.first_fittings_rules.specs.Conversions.{Way, converted, rows, answer, given, Promised}
+use Rattle.first_fittings_rules.specs.Conversions.{Way, to24, converted, rows, answer, given, Promised}
 use Rattle.first_fittings_rules.proofs.Ways.{Into, converted-length}
 
 -- the three tests
@@ -111,3 +111,15 @@ module _ (way : Way) (into : ℕ) (some : 0 < into) (long : Into way into) (tape
 
       pub converts : is_used way tape ≡ false → answer way tape before ≡ Ok (length (converted way tape))
       converts e = answer_by_lem way tape before no_part room e
+
+-- to 24 no record is bad
+pub none_barred : (rs : List (List ℕ)) → any_of to24.barred rs ≡ false
+none_barred [] = refl
+none_barred (r ∷ rs) = none_barred rs
+
+-- what was written stands within the buffer
+pub written_within : {way : Way} {tape before after : List ℕ} {r : Answer}
+    → Promised way tape before r after → written r ≤ length after
+written_within {way} {tape} {before} p =
+    let made = given way tape before in
+    omega (arith, p.count, ap length p.bytes, length-append made (drop (length made) before))

@@ -12,6 +12,7 @@ use esi_rules::{Key, Refusal};
 use records::RECORD_LENGTH;
 
 // The number of an answer.
+#[tactic(auto, unfolding(esi_rules::specs::LookUp::number))]
 pub fn number_of(answer: Result<u64, Refusal>) -> u8
     ensures { result ≡ number answer }
 {

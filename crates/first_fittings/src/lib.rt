@@ -18,6 +18,7 @@ const PLACES: [usize; 20] = [
 ];
 
 // The number of an answer.
+#[tactic(auto, unfolding(first_fittings_rules::specs::Answers::number))]
 pub fn number_of(answer: Result<usize, Refusal>) -> u8
     ensures { result ≡ number answer }
 {

@@ -35,7 +35,8 @@ returns-then-output-INTO g c =
     let taken₂ = c.FROM-2.ensures ∙ sym laws.takes in
     let whole : length tape % d.way.size ≡ 0 = ap (λ n. length tape % n) (omega (arith, taken)) ∙ c.if-input-FROM-ne0.false in
     refused d.way tape lent ShortBuffer
-    (too_short_lem d.way d.INTO laws.some_given laws.gives tape lent whole (fewer _ _ c.if-output-INTO.true (omega (arith, c.INTO.ensures)) taken₂))
+    (too_short_lem d.way d.INTO laws.some_given laws.gives tape lent whole
+    (fewer _ _ c.if-output-INTO.true (omega (arith, c.INTO.ensures)) taken₂))
 
 pub returns-then-any_barred : goal.returns-then-any_barred
 returns-then-any_barred g c =
@@ -47,7 +48,8 @@ returns-then-any_barred g c =
     let taken₂ = c.FROM-2.ensures ∙ sym laws.takes in
     let whole : length tape % d.way.size ≡ 0 = ap (λ n. length tape % n) (omega (arith, taken)) ∙ c.if-input-FROM-ne0.false in
     refused d.way tape lent LastBytesUsed
-    (last_bytes d.way d.INTO laws.some_given laws.gives tape lent whole (enough _ _ c.if-output-INTO.false (omega (arith, c.INTO.ensures)) taken₂)
+    (last_bytes d.way d.INTO laws.some_given laws.gives tape lent whole
+    (enough _ _ c.if-output-INTO.false (omega (arith, c.INTO.ensures)) taken₂)
     (sym c.any_barred.ensures ∙ c.if-any_barred.true))
 
 pub returns : goal.returns
@@ -62,7 +64,8 @@ returns g c =
     let count : c.INTO-2.result * (length tape / c.FROM-2.result) ≡ d.INTO * (length tape / d.way.size) =
     ap₂ (λ a b. a * (length tape / b)) c.INTO-2.ensures taken₂ in
     accepted d.way tape lent _ c.write_all.new.output
-    (converts d.way d.INTO laws.some_given laws.gives tape lent whole (enough _ _ c.if-output-INTO.false (omega (arith, c.INTO.ensures)) taken₂)
+    (converts d.way d.INTO laws.some_given laws.gives tape lent whole
+    (enough _ _ c.if-output-INTO.false (omega (arith, c.INTO.ensures)) taken₂)
     (sym c.any_barred.ensures ∙ c.if-any_barred.false))
     (count ∙ sym (converted-length d.way d.INTO laws.gives tape))
     (c.write_all.ensures ∙ ap (λ n. converted d.way tape ++ drop n lent) (sym count))
